@@ -1,0 +1,4 @@
+pub mod TestLaws
+pub mod LittleLaws
+pub mod BitLaws
+pub mod PartLaws

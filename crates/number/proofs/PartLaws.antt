@@ -1,0 +1,149 @@
+-- Laws of lists of bytes: a table of a function, zeros, a part written over. Assumes nothing.
+use mathlib.Core.Path.{_≡_, refl, sym, ap, _∙_, fun-ext}
+use mathlib.Core.Bool.{Bool, true, false, cond, _&&_}
+use mathlib.Core.List.{List, [], _∷_, _++_}
+use Prim.Native.Nat.{ℕ, zero, suc, _+_, _-_, _≤_, _<_, suc-le-suc}
+use native.Mathlib.Omega.{arith}
+use native.Mathlib.Nat.{add-zero, zero-add, add-suc, suc-add, add-sub-cancel-left}
+use lib.ListN.{length, getD, take, drop, replicate, length-append, length-take, length-drop, List·getD-append, List·getD-eq-default, getD-replicate}
+use lib.Seq.{getD-take, getD-drop, getD-append-add, ext-getD, length-take-le}
+use lib.Dec.{leb, ltb, eqb}
+use borrow.Author.Tests.{eq-eqb, ltb-true, ltb-false, eqb-true}
+use Rattle.number.specs.Parts.{at, tab, zeros, inPart, over}
+use Rattle.number.proofs.TestLaws.{and-true, in-true, in-below, in-above, Where, below, inside, above, locate}
+
+-- ---- a table of a function
+
+pub length-tab {ℓ} : {A : Type ℓ} (i n : ℕ) (f : ℕ → A) → length (tab i n f) ≡ n
+unfolding tab
+length-tab i zero f = refl
+length-tab i (suc n) f = ap suc (length-tab (suc i) n f)
+
+pub getD-tab {ℓ} : {A : Type ℓ} (n i q : ℕ) (f : ℕ → A) (d : A) → q < n → getD (tab i n f) q d ≡ f (i + q)
+unfolding tab
+getD-tab zero i q f d h = absurd (omega arith)
+getD-tab (suc n) i zero f d h = rw add-zero
+getD-tab (suc n) i (suc q) f d h = rw (add-suc i q, ← suc-add i q) (getD-tab n (suc i) q f d (omega arith))
+
+pub at-tab : (n q : ℕ) (f : ℕ → ℕ) → q < n → at (tab 0 n f) q ≡ f q
+at-tab n q f h = getD-tab n 0 q f 0 h ∙ ap f (zero-add q)
+
+pub at-tab-out : (n q : ℕ) (f : ℕ → ℕ) → n ≤ q → at (tab 0 n f) q ≡ 0
+at-tab-out n q f h = List·getD-eq-default (tab 0 n f) 0 (rw (length-tab 0 n f) h)
+
+pub tab-ext {ℓ} : {A : Type ℓ} (n i : ℕ) (f g : ℕ → A) → ((q : ℕ) → i ≤ q → q < i + n → f q ≡ g q) → tab i n f ≡ tab i n g
+unfolding tab
+tab-ext zero i f g h = refl
+tab-ext (suc n) i f g h = rw (h i (omega arith) (omega arith), tab-ext n (suc i) f g (λ q x y. h q (omega arith) (omega arith)))
+
+pub tab-eq {ℓ} : {A : Type ℓ} (d : A) (l : List A) (i : ℕ) (f : ℕ → A) → ((j : ℕ) → j < length l → f (i + j) ≡ getD l j d) → tab i (length l) f ≡ l
+unfolding tab
+tab-eq d [] i f h = refl
+tab-eq {A = A} d (x ∷ xs) i f h =
+    let h0 : f i ≡ x = rw add-zero at (h 0 (omega arith)) in
+    let ih : tab (suc i) (length xs) f ≡ xs = tab-eq d xs (suc i) f (λ j k. rw (suc-add i j, ← add-suc i j) (h (suc j) (suc-le-suc k))) in
+    rw (h0, ih)
+
+-- a list is the table of its bytes
+pub is-tab : (n : ℕ) (h : List ℕ) (f : ℕ → ℕ) → length h ≡ n → ((q : ℕ) → q < n → at h q ≡ f q) → h ≡ tab 0 n f
+is-tab n h f e k =
+    ext-getD 0 h (tab 0 n f) (rw (length-tab 0 n f) e) (λ q y. let x : q < n = rw e at y in k q x ∙ sym (at-tab n q f x))
+
+-- the table of a function that is 0 past its end is the function
+pub at-whole : (n : ℕ) (f : ℕ → ℕ) → ((q : ℕ) → n ≤ q → f q ≡ 0) → at (tab 0 n f) ≡ f
+at-whole n f h = fun-ext (λ q. go q (ltb q n) refl)
+  where
+    go : (q : ℕ) (t : Bool) → ltb q n ≡ t → at (tab 0 n f) q ≡ f q
+    go q true e = at-tab n q f (ltb-true q n e)
+    go q false e = at-tab-out n q f (ltb-false q n e) ∙ sym (h q (ltb-false q n e))
+
+pub tab-zero : (n i : ℕ) (f : ℕ → ℕ) → ((q : ℕ) → f q ≡ 0) → tab i n f ≡ replicate n 0
+unfolding tab
+tab-zero zero i f h = refl
+tab-zero (suc n) i f h = rw (h i, tab-zero n (suc i) f h)
+
+-- ---- zeros
+
+pub zeros-at : (f : ℕ → ℕ) (q n i : ℕ) → zeros f q n ≡ true → i < n → f (q + i) ≡ 0
+unfolding zeros
+zeros-at f q zero i e h = absurd (omega arith)
+zeros-at f q (suc n) zero e h = rw add-zero (eqb-true (f q) 0 (and-true (eqb (f q) 0) (zeros f (suc q) n) e .0))
+zeros-at f q (suc n) (suc i) e h =
+    rw (add-suc q i, ← suc-add q i) (zeros-at f (suc q) n i (and-true (eqb (f q) 0) (zeros f (suc q) n) e .1) (omega arith))
+
+pub zeros-all : (f : ℕ → ℕ) (q n : ℕ) → ((i : ℕ) → i < n → f (q + i) ≡ 0) → zeros f q n ≡ true
+unfolding zeros
+zeros-all f q zero h = refl
+zeros-all f q (suc n) h =
+    let h0 : f q ≡ 0 = rw add-zero at (h 0 (omega arith)) in
+    rw (eq-eqb (f q) 0 h0) (zeros-all f (suc q) n (λ i k. rw (suc-add q i, ← add-suc q i) (h (suc i) (suc-le-suc k))))
+
+-- ---- a part written over
+
+pub length-over : (a n : ℕ) (f : ℕ → ℕ) (h : List ℕ) → length (over a n f h) ≡ length h
+unfolding over
+length-over a n f h = length-tab 0 (length h) _
+
+pub at-over : (a n : ℕ) (f : ℕ → ℕ) (h : List ℕ) (q : ℕ) → q < length h → at (over a n f h) q ≡ cond (inPart a n q) (f q) (at h q)
+unfolding over
+at-over a n f h q k = at-tab (length h) q _ k
+
+pub over-in : (a n : ℕ) (f : ℕ → ℕ) (h : List ℕ) (q : ℕ) → q < length h → a ≤ q → q < a + n → at (over a n f h) q ≡ f q
+over-in a n f h q k x y = at-over a n f h q k ∙ rw (in-true a (a + n) q x y)
+
+pub over-below : (a n : ℕ) (f : ℕ → ℕ) (h : List ℕ) (q : ℕ) → q < length h → q < a → at (over a n f h) q ≡ at h q
+over-below a n f h q k x = at-over a n f h q k ∙ rw (in-below a (a + n) q x)
+
+pub over-above : (a n : ℕ) (f : ℕ → ℕ) (h : List ℕ) (q : ℕ) → q < length h → a + n ≤ q → at (over a n f h) q ≡ at h q
+over-above a n f h q k x = at-over a n f h q k ∙ rw (in-above a (a + n) q x)
+
+-- a list that is f in the part and as before elsewhere
+pub is-over : (a n : ℕ) (f : ℕ → ℕ) (h g : List ℕ) → length g ≡ length h
+    → ((q : ℕ) → q < length h → a ≤ q → q < a + n → at g q ≡ f q)
+    → ((q : ℕ) → q < length h → q < a → at g q ≡ at h q)
+    → ((q : ℕ) → q < length h → a + n ≤ q → at g q ≡ at h q) → g ≡ over a n f h
+is-over a n f h g e into low high =
+    ext-getD 0 g (over a n f h) (e ∙ sym (length-over a n f h)) (λ q y. let k : q < length h = rw e at y in go q k (locate a (a + n) q))
+  where
+    go : (q : ℕ) → q < length h → Where a (a + n) q → at g q ≡ at (over a n f h) q
+    go q k (below x) = low q k x ∙ sym (over-below a n f h q k x)
+    go q k (inside x y) = into q k x y ∙ sym (over-in a n f h q k x y)
+    go q k (above x y) = high q k x ∙ sym (over-above a n f h q k x)
+
+pub over-ext : (a n : ℕ) (f g : ℕ → ℕ) (h : List ℕ) → ((q : ℕ) → a ≤ q → q < a + n → f q ≡ g q) → over a n f h ≡ over a n g h
+over-ext a n f g h e =
+    is-over a n g h (over a n f h) (length-over a n f h) (λ q k x y. over-in a n f h q k x y ∙ e q x y) (over-below a n f h) (over-above a n f h)
+
+-- ---- a part that was lent and has come back
+
+pub part-length : (xs : List ℕ) (a n : ℕ) → a + n ≤ length xs → length (take ((a + n) - a) (drop a xs)) ≡ n
+part-length xs a n h = simp (length-take, length-drop) (omega arith)
+
+pub part-at : (xs : List ℕ) (a n i : ℕ) → i < n → at (take ((a + n) - a) (drop a xs)) i ≡ at xs (a + i)
+part-at xs a n i h = rw (add-sub-cancel-left a n, getD-take n (drop a xs) i 0 h) (getD-drop a xs i 0)
+
+at-joined : (xs last rest : List ℕ) (a n : ℕ) → a ≤ length xs → length last ≡ n
+    → ((i : ℕ) → i < a → at (take a xs ++ (last ++ rest)) i ≡ at xs i)
+    × ((i : ℕ) → i < n → at (take a xs ++ (last ++ rest)) (a + i) ≡ at last i)
+    × ((i : ℕ) → at (take a xs ++ (last ++ rest)) (a + n + i) ≡ at rest i)
+at-joined xs last rest a n h e =
+    let l : length (take a xs) ≡ a = length-take-le a xs h in (
+      λ i k. List·getD-append (take a xs) (last ++ rest) 0 i (omega arith) ∙ getD-take a xs i 0 k,
+      λ i k. rw l at (getD-append-add (take a xs) (last ++ rest) i 0) ∙ List·getD-append last rest 0 i (omega arith),
+      λ i. rw native.Mathlib.Nat.add-assoc (rw l at (getD-append-add (take a xs) (last ++ rest) (n + i) 0)) ∙ rw e at (getD-append-add last rest i 0),
+    )
+
+-- what a part that comes back as `last` makes of the whole
+pub over-part : (xs last : List ℕ) (a n : ℕ) (f : ℕ → ℕ) → a + n ≤ length xs → length last ≡ n → ((i : ℕ) → i < n → at last i ≡ f (a + i))
+    → take a xs ++ (last ++ drop ((a + n) - a) (drop a xs)) ≡ over a n f xs
+over-part xs last a n f h e k =
+    let rest : List ℕ = drop ((a + n) - a) (drop a xs) in
+    let j = at-joined xs last rest a n (omega arith) e in
+    is-over a n f xs (take a xs ++ (last ++ rest))
+    (simp (length-append, length-take, length-drop) (omega arith))
+    (λ q u x y. let w : a + (q - a) ≡ q = omega arith in rw w at (j .1 (q - a) (omega arith) ∙ k (q - a) (omega arith)))
+    (λ q u x. j .0 q x)
+    (λ q u x. let w : a + n + (q - (a + n)) ≡ q = omega arith in rw w at (j .2 (q - (a + n)) ∙ tail (q - (a + n))))
+  where
+    tail : (i : ℕ) → at (drop ((a + n) - a) (drop a xs)) i ≡ at xs (a + n + i)
+    tail i = rw (add-sub-cancel-left a n, getD-drop n (drop a xs) i 0, getD-drop a xs (n + i) 0, native.Mathlib.Nat.add-assoc)

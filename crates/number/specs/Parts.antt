@@ -1,0 +1,28 @@
+-- Parts of a list of bytes. Assumes nothing.
+use mathlib.Core.Bool.{Bool, true, false, cond, _&&_}
+use mathlib.Core.List.{List, [], _∷_}
+use Prim.Native.Nat.{ℕ, zero, suc, _+_}
+use lib.ListN.{length, getD}
+use lib.Dec.{leb, ltb, eqb}
+
+-- the byte at place q, 0 past the end
+abbrev pub at : List ℕ → ℕ → ℕ
+at h q = getD h q 0
+
+-- f at n places from i on
+unfoldable pub tab {ℓ} : {A : Type ℓ} → ℕ → ℕ → (ℕ → A) → List A
+tab i zero f = []
+tab i (suc n) f = f i ∷ tab (suc i) n f
+
+-- the n bytes from place q on are zero, f the bytes
+unfoldable pub zeros : (ℕ → ℕ) → ℕ → ℕ → Bool
+zeros f q zero = true
+zeros f q (suc n) = eqb (f q) 0 && zeros f (suc q) n
+
+-- q is one of the n places from a on
+abbrev pub inPart : (a n q : ℕ) → Bool
+inPart a n q = leb a q && ltb q (a + n)
+
+-- the n bytes from place a on are those of f, every other byte stays
+unfoldable pub over : (a n : ℕ) → (ℕ → ℕ) → List ℕ → List ℕ
+over a n f h = tab 0 (length h) (λ q. cond (inPart a n q) (f q) (at h q))

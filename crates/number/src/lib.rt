@@ -1,0 +1,1 @@
+// Little-endian numbers, bits, and parts of a slice.

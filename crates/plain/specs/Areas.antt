@@ -1,0 +1,42 @@
+-- The rules of the two kinds of area, and of a map. Assumes nothing.
+use mathlib.Core.Bool.{Bool, true, false, _&&_}
+use Prim.Native.Nat.{ℕ, _+_, _*_, _-_, _/_, _%_}
+use lib.Dec.{leb, eqb}
+use Rattle.map.specs.declared.Map.{Map}
+use Rattle.map.specs.Map.{within}
+use Rattle.plain.specs.Rules.{Rules}
+use Rattle.plain.specs.Join.{joinRules}
+
+-- the least number of segments of G bytes that hold n bytes
+unfoldable pub segments : (G n : ℕ) → ℕ
+segments G n = (n + (G - 1)) / G
+
+-- a heap of segments of G bytes: a block takes its header, the segment before its base, and its segments; its base is a multiple of G
+abbrev pub heapRules : (G start size : ℕ) → Rules
+heapRules G start size =
+    record {
+      inside = within start size;
+      fits = λ b l. leb (start + G) b && leb (b + l) (start + size) && within start size b;
+      aligned = λ b. eqb (b % G) 0;
+      low = λ b l. b - G;
+      high = λ b l. b + segments G l * G;
+      heap = λ a. true;
+      top = start + size;
+    }
+
+-- a stack: a block takes its own bytes, at any alignment
+abbrev pub stackRules : (start size : ℕ) → Rules
+stackRules start size =
+    record {
+      inside = within start size;
+      fits = λ b l. leb (b + l) (start + size) && within start size b;
+      aligned = λ b. true;
+      low = λ b l. b;
+      high = λ b l. b + l;
+      heap = λ a. false;
+      top = start + size;
+    }
+
+-- a heap of 8-byte segments and a stack
+abbrev pub mapRules : Map → Rules
+mapRules m = joinRules (heapRules 8 (m .«heap_start») (m .«heap_size»)) (stackRules (m .«stack_start») (m .«stack_size»))

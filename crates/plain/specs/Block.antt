@@ -1,0 +1,42 @@
+-- A live block, and what it holds. Addresses and lengths are whole numbers. Assumes nothing.
+use mathlib.Core.Bool.{Bool, true, false, _&&_}
+use mathlib.Core.List.{List}
+use Prim.Native.Nat.{ℕ, zero, suc, _+_, _-_}
+use lib.ListN.{length, getD, set, replicate}
+use lib.Dec.{leb, ltb, eqb}
+
+-- where it begins, and for each of its bytes whether it is written
+pub record Block : Type 0 where
+  pub base : ℕ
+  pub marks : List Bool
+
+abbrev pub len : Block → ℕ
+len b = length (b .marks)
+
+-- a block of which no byte is written
+abbrev pub fresh : (base length : ℕ) → Block
+fresh b l = record { base = b; marks = replicate l false }
+
+-- the block holds the address
+abbrev pub contains : ℕ → Block → Bool
+contains a b = leb (b .base) a && ltb a (b .base + len b)
+
+-- the block holds the n addresses from a on
+unfoldable pub holds : (a n : ℕ) → Block → Bool
+holds a n b = leb (b .base) a && leb (a + n) (b .base + len b)
+
+abbrev pub hasBase : ℕ → Block → Bool
+hasBase x b = eqb (b .base) x
+
+-- the byte at an address that the block holds is written
+abbrev pub isWritten : Block → ℕ → Bool
+isWritten b a = getD (b .marks) (a - b .base) false
+
+-- each of the n addresses from a on is a written byte of the block
+unfoldable pub allWritten : (a n : ℕ) → Block → Bool
+allWritten a zero b = true
+allWritten a (suc n) b = isWritten b a && allWritten (suc a) n b
+
+-- the byte at the address counts as written
+abbrev pub markBlock : ℕ → Block → Block
+markBlock a b = record { base = b .base; marks = set (b .marks) (a - b .base) true }

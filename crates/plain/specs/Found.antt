@@ -1,0 +1,28 @@
+-- What an audit's walk finds from some place on: the marks of the block that goes on there, and the blocks after it; or no image.
+-- Assumes nothing.
+use mathlib.Core.Bool.{Bool}
+use mathlib.Core.List.{List, [], _∷_, _++_}
+use mathlib.Core.Option.{Option, none, some}
+use Prim.Native.Nat.{ℕ}
+use Rattle.plain.specs.Block.{Block}
+use Rattle.plain.specs.Rules.{Rules}
+use Rattle.plain.specs.Reading.{Tally, tallyOf}
+
+pub data Found : Type 0 where
+  bad : Found
+  got : List Bool → List Block → Found
+
+-- marks that stand before what was found
+abbrev pub goesOn : List Bool → Found → Found
+goesOn m bad = bad
+goesOn m (got ms bs) = got (m ++ ms) bs
+
+-- a block begins before what was found
+abbrev pub begins : ℕ → Found → Found
+begins base bad = bad
+begins base (got ms bs) = got [] (record { base = base; marks = ms } ∷ bs)
+
+-- the totals of what was found
+abbrev pub totals : Rules → Found → Option Tally
+totals R bad = none
+totals R (got ms bs) = some (tallyOf R bs)

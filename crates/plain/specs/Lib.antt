@@ -1,0 +1,12 @@
+pub mod Block
+pub mod Blocks
+pub mod Rules
+pub mod Areas
+pub mod Reading
+pub mod Ops
+pub mod Images
+pub mod Lift
+pub mod Join
+pub mod ReadBack
+pub mod Layer
+pub mod Found

@@ -1,0 +1,31 @@
+-- The list of blocks that readings tell, address by address: one block for each reading with offset 0. Assumes nothing.
+use mathlib.Core.Bool.{Bool, true, false}
+use mathlib.Core.List.{List, [], _∷_}
+use Prim.Native.Nat.{ℕ, zero, suc, _+_}
+use lib.Dec.{eqb}
+use Rattle.number.specs.Parts.{tab}
+use Rattle.plain.specs.Block.{Block}
+use Rattle.plain.specs.Rules.{Rules}
+use Rattle.plain.specs.Reading.{Reading, nothing, block, damaged}
+use Rattle.plain.specs.Ops.{Ops, readAny}
+
+abbrev pub saysWritten : Reading → Bool
+saysWritten nothing = false
+saysWritten damaged = false
+saysWritten (block b l o m) = eqb m 1
+
+-- what the reading of address a adds to the blocks after it: its marks are those that the readings of its bytes tell
+abbrev pub begin : (ℕ → Reading) → ℕ → Reading → List Block → List Block
+begin rd a nothing bs = bs
+begin rd a damaged bs = bs
+begin rd a (block b l zero m) bs = record { base = b; marks = tab 0 l (λ i. saysWritten (rd (b + i))) } ∷ bs
+begin rd a (block b l (suc o) m) bs = bs
+
+-- the n addresses from a on
+unfoldable pub collect : (ℕ → Reading) → (a n : ℕ) → List Block
+collect rd a zero = []
+collect rd a (suc n) = begin rd a (rd a) (collect rd (suc a) n)
+
+-- the list that a shadow state tells: the readings of all addresses below the end of the areas
+abbrev pub readBack : {S : Type 0} → Rules → Ops S → S → List Block
+readBack R O s = collect (readAny R O s) 0 (R .top)

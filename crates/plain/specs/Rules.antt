@@ -1,0 +1,46 @@
+-- What follows from the map alone: where blocks may stand. The placing rules of a list of blocks. Assumes nothing.
+use mathlib.Core.Path.{_≡_}
+use mathlib.Core.Bool.{Bool, true, false, _&&_}
+use mathlib.Core.List.{List, [], _∷_}
+use Prim.Native.Nat.{ℕ, _+_, _≤_, _<_}
+use lib.Dec.{ltb}
+use Rattle.plain.specs.Block.{Block, len}
+
+pub record Rules : Type 0 where
+  -- the address lies in an area
+  pub inside : ℕ → Bool
+  -- base and length: the base lies in an area, and the block, with its header, fits that area
+  pub fits : ℕ → ℕ → Bool
+  -- the base is aligned as its area asks
+  pub aligned : ℕ → Bool
+  -- the footprint of a block of this base and length: from low to before high
+  pub low : ℕ → ℕ → ℕ
+  pub high : ℕ → ℕ → ℕ
+  -- the address is one of the heap's
+  pub heap : ℕ → Bool
+  -- every area ends at or below
+  pub top : ℕ
+
+-- the footprint of a block of this base and length meets that of a listed one
+unfoldable pub meets : Rules → (base length : ℕ) → Block → Bool
+meets R b l c = ltb (R .low b l) (R .high (c .base) (len c)) && ltb (R .low (c .base) (len c)) (R .high b l)
+
+-- the placing rules: each block has a byte, fits and is aligned; the list is in address order, no footprint meets another,
+-- and none begins below `from`
+abbrev pub Placed : Rules → (from : ℕ) → List Block → Type 0
+Placed R from [] = Unit {0}
+Placed R from (b ∷ bs) =
+    record {
+      some : 1 ≤ len b;
+      fits : R .fits (b .base) (len b) ≡ true;
+      aligned : R .aligned (b .base) ≡ true;
+      room : from ≤ R .low (b .base) (len b);
+      later : Placed R (R .high (b .base) (len b)) bs;
+    }
+
+-- what the rules of every area keep
+pub record Sound (R : Rules) : Type 0 where
+  pub low-base : (b l : ℕ) → R .fits b l ≡ true → R .low b l ≤ b
+  pub high-end : (b l : ℕ) → b + l ≤ R .high b l
+  pub in-inside : (b l a : ℕ) → R .fits b l ≡ true → b ≤ a → a < b + l → R .inside a ≡ true
+  pub in-top : (a : ℕ) → R .inside a ≡ true → a < R .top

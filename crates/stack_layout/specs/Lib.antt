@@ -1,0 +1,5 @@
+pub mod Code
+pub mod Image
+pub mod Reading
+pub mod Walk
+pub mod Ops
