@@ -1,1 +1,115 @@
 // Little-endian numbers, bits, and parts of a slice.
+ghost use mathlib.Core.Path.{_≡_};
+ghost use mathlib.Core.Bool.{Bool};
+ghost use Prim.Native.Nat.{ℕ, _+_, _-_, _≤_, _<_};
+ghost use lib.ListN.{length};
+ghost use Rattle.number.specs.Little.{le, bytesOf, byteOf, word};
+ghost use Rattle.number.specs.Bits.{bitOf, withBit, onesOf};
+ghost use Rattle.number.specs.Parts.{at, zeros, over};
+
+// A byte as a wider number.
+pub fn wide(x: u8) -> u32
+    ensures { λ r. ⌜ (r ≡ x) × (r < 256) ⌝ }
+{
+    x as u32
+}
+
+// The number that four bytes hold.
+pub fn number(bytes: &[u8]) -> u32
+    requires { ⌜ length (now bytes) ≡ 4 ⌝ }
+    ensures { λ r. ⌜ r ≡ le (now (bytes .entry)) ⌝ }
+{
+    wide(bytes[0]) + 256 * (wide(bytes[1]) + 256 * (wide(bytes[2]) + 256 * wide(bytes[3])))
+}
+
+// The number at a place of a slice.
+pub fn number_at(s: &[u8], p: usize) -> u32
+    requires { ⌜ p + 4 ≤ length (now s) ⌝ }
+    ensures { λ r. ⌜ r ≡ word (at (now (s .entry))) p 4 ⌝ }
+{
+    number(&s[p..p + 4])
+}
+
+// Writes a number into four bytes.
+pub fn put_number(bytes: &mut [u8], v: u32)
+    requires { ⌜ length (now bytes) ≡ 4 ⌝ }
+    ensures { λ _. ⌜ now (bytes .exit) ≡ bytesOf 4 v ⌝ }
+{
+    bytes[0] = (v % 256) as u8;
+    bytes[1] = (v / 256 % 256) as u8;
+    bytes[2] = (v / 256 / 256 % 256) as u8;
+    bytes[3] = (v / 256 / 256 / 256 % 256) as u8;
+}
+
+// Writes a number at a place of a slice; every other byte stays.
+pub fn put_at(s: &mut [u8], p: usize, v: u32)
+    requires { ⌜ p + 4 ≤ length (now s) ⌝ }
+    ensures { λ _. ⌜ now (s .exit) ≡ over p 4 (λ q. byteOf v (q - p)) (now (s .entry)) ⌝ }
+{
+    put_number(&mut s[p..p + 4], v);
+}
+
+// Whether each byte of a slice is zero: one pass with no early way out, which runs at memory speed.
+pub fn all_zero(s: &[u8]) -> bool
+    ensures { λ r. ⌜ r ≡ zeros (at (now (s .entry))) 0 (length (now (s .entry))) ⌝ }
+{
+    let mut seen: u8 = 0;
+    let mut i = 0;
+    while i < s.len() {
+        seen = seen | s[i];
+        i += 1;
+    }
+    seen == 0
+}
+
+// Whether the n bytes from a on are zero.
+pub fn zero_at(s: &[u8], a: usize, n: usize) -> bool
+    requires { ⌜ a + n ≤ length (now s) ⌝ }
+    ensures { λ r. ⌜ r ≡ zeros (at (now (s .entry))) a n ⌝ }
+{
+    let e = a + n;
+    all_zero(&s[a..e])
+}
+
+// Zeros in a whole slice.
+pub fn fill_zero(s: &mut [u8])
+    ensures { λ _. ⌜ now (s .exit) ≡ over 0 (length (now (s .entry))) (λ q. 0) (now (s .entry)) ⌝ }
+{
+    let mut i = 0;
+    while i < s.len() {
+        s[i] = 0;
+        i += 1;
+    }
+}
+
+// Zeros in the n bytes from a on; every other byte stays.
+pub fn fill_zero_at(s: &mut [u8], a: usize, n: usize)
+    requires { ⌜ a + n ≤ length (now s) ⌝ }
+    ensures { λ _. ⌜ now (s .exit) ≡ over a n (λ q. 0) (now (s .entry)) ⌝ }
+{
+    let e = a + n;
+    fill_zero(&mut s[a..e]);
+}
+
+// Bit j of a byte.
+pub fn bit(byte: u8, j: u32) -> u8
+    requires { ⌜ j < 8 ⌝ }
+    ensures { λ r. ⌜ r ≡ bitOf byte j ⌝ }
+{
+    (byte >> j) & 1
+}
+
+// The byte with bit j set.
+pub fn with_bit(byte: u8, j: u32) -> u8
+    requires { ⌜ j < 8 ⌝ }
+    ensures { λ r. ⌜ r ≡ withBit byte j ⌝ }
+{
+    byte | (1u8 << j)
+}
+
+// The ones of a byte.
+pub fn ones(byte: u8) -> u32
+    ensures { λ r. ⌜ (r ≡ onesOf 8 byte) × (r ≤ 8) ⌝ }
+{
+    u8::count_ones(byte)
+}

@@ -10,3 +10,4 @@ pub mod Join
 pub mod ReadBack
 pub mod Layer
 pub mod Found
+pub mod Answers

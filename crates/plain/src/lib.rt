@@ -1,1 +1,15 @@
-// Theory: definitions in specs/, laws in proofs/, no code.
+// What the layouts answer, by positions. The theory of lists of blocks stands in specs/ and proofs/.
+use map::Position;
+
+// The reading of a position: base, length, offset, and 1 where the byte is written or else 0.
+pub enum Reading {
+    Nothing,
+    Block(Position, u32, u32, u8),
+    Damaged,
+}
+
+// An audit of one area: blocks, live bytes, written bytes.
+pub enum Audit {
+    Totals(u32, u32, u32),
+    NoImage,
+}
