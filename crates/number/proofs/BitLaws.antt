@@ -1,7 +1,7 @@
 -- Laws of bits, over the bit and the list. Assumes nothing.
 use mathlib.Core.Path.{_≡_, refl, sym, ap, _∙_}
 use mathlib.Core.Logic.{_⊎_, inl, inr, ⊎-elim}
-use mathlib.Core.Bool.{Bool, true, false, not}
+use mathlib.Core.Bool.{Bool, true, false, not, _&&_}
 use mathlib.Core.List.{List, [], _∷_}
 use Prim.Native.Nat.{ℕ, zero, suc, _+_, _-_, _*_, _/_, _%_, _^_, _≤_, _<_}
 use native.Mathlib.Omega.{arith}
@@ -10,8 +10,10 @@ use native.Mathlib.Numerals.{add-one}
 use lib.ListN.{length, getD, set}
 use lib.Dec.{eqb, lit<, lit≤}
 use lib.Pow.{pow-pos, pow-lt, pow-add, shr-shr, high-ones, shl-exact}
-use lib.Bits.{bitAnd, bitOr, and-high, or-shr, or-mod, or-zero-r, or-step, or-shifted}
+use lib.Bits.{bitAnd, bitOr, or-add-and, and-le-l, and-le-r, and-high, or-shr, or-mod, or-zero-r, or-step, or-shifted}
 use lib.Count as count
+use borrow.Author.Tests.{eq-eqb, eqb-true}
+use Rattle.number.proofs.TestLaws.{and-true, same-test}
 use Rattle.number.specs.Bits.{bit, bitOf, withBit, ofBits, ones, onesOf}
 
 pub bit-lt : (b : Bool) → bit b < 2
@@ -146,3 +148,12 @@ ones-list (x ∷ xs) =
 -- the ones of a number are those of its bits
 pub onesOf-list : (n : ℕ) (l : List Bool) → length l ≤ n → onesOf n (ofBits l) ≡ ones l
 onesOf-list n l h = sym (ones-all n (ofBits l) (omega (arith, ofBits-lt l, lib.Pow.pow-mono h))) ∙ ones-list l
+
+-- an or is zero where both are
+pub or-none : (a b : ℕ) → eqb (bitOr a b) 0 ≡ (eqb a 0 && eqb b 0)
+or-none a b =
+    same-test (eqb (bitOr a b) 0) (eqb a 0 && eqb b 0)
+    (λ e. let z : bitOr a b ≡ 0 = eqb-true (bitOr a b) 0 e in
+    rw (eq-eqb a 0 (omega (arith, or-add-and a b, and-le-r a b)), eq-eqb b 0 (omega (arith, or-add-and a b, and-le-l a b))))
+    (λ e. let t = and-true (eqb a 0) (eqb b 0) e in
+    eq-eqb (bitOr a b) 0 (omega (arith, or-add-and a b, eqb-true a 0 (t .0), eqb-true b 0 (t .1))))

@@ -2,15 +2,16 @@
 use mathlib.Core.Path.{_≡_, refl, sym, ap, _∙_, fun-ext}
 use mathlib.Core.Bool.{Bool, true, false, cond, _&&_}
 use mathlib.Core.List.{List, [], _∷_, _++_}
+use mathlib.Core.Logic.{_≢_}
 use Prim.Native.Nat.{ℕ, zero, suc, _+_, _-_, _≤_, _<_, suc-le-suc}
 use native.Mathlib.Omega.{arith}
 use native.Mathlib.Nat.{add-zero, zero-add, add-suc, suc-add, add-sub-cancel-left}
-use lib.ListN.{length, getD, take, drop, replicate, length-append, length-take, length-drop, List·getD-append, List·getD-eq-default, getD-replicate}
-use lib.Seq.{getD-take, getD-drop, getD-append-add, ext-getD, length-take-le}
+use lib.ListN.{length, getD, take, drop, replicate, length-append, length-take, length-drop, set, length-set, List·getD-append, List·getD-eq-default, getD-replicate}
+use lib.Seq.{getD-take, getD-drop, getD-append-add, ext-getD, length-take-le, getD-set-same, getD-set-other}
 use lib.Dec.{leb, ltb, eqb}
-use borrow.Author.Tests.{eq-eqb, ltb-true, ltb-false, eqb-true}
+use borrow.Author.Tests.{eq-eqb, ltb-true, ltb-false, eqb-true, eqb-false}
 use Rattle.number.specs.Parts.{at, tab, zeros, inPart, over}
-use Rattle.number.proofs.TestLaws.{and-true, in-true, in-below, in-above, Where, below, inside, above, locate}
+use Rattle.number.proofs.TestLaws.{Test, is-true, is-false, test, and-true, in-true, in-below, in-above, Where, below, inside, above, locate}
 
 -- ---- a table of a function
 
@@ -78,6 +79,27 @@ zeros-all f q (suc n) h =
     let h0 : f q ≡ 0 = rw add-zero at (h 0 (omega arith)) in
     rw (eq-eqb (f q) 0 h0) (zeros-all f (suc q) n (λ i k. rw (suc-add q i, ← add-suc q i) (h (suc i) (suc-le-suc k))))
 
+pub zeros-same : (f g : ℕ → ℕ) (a b n : ℕ) → ((i : ℕ) → i < n → f (a + i) ≡ g (b + i)) → zeros f a n ≡ zeros g b n
+unfolding zeros
+zeros-same f g a b zero h = refl
+zeros-same f g a b (suc n) h =
+    let h0 : f a ≡ g b = rw (add-zero a, add-zero b) at (h 0 (omega arith)) in
+    rw (h0, zeros-same f g (suc a) (suc b) n (λ i k. rw (suc-add a i, suc-add b i, ← add-suc a i, ← add-suc b i) (h (suc i) (suc-le-suc k))))
+
+-- one place more
+pub zeros-more : (f : ℕ → ℕ) (q n : ℕ) → zeros f q (suc n) ≡ (zeros f q n && eqb (f (q + n)) 0)
+unfolding zeros
+zeros-more f q zero = rw add-zero (swap (eqb (f q) 0))
+  where
+    swap : (t : Bool) → (t && true) ≡ (true && t)
+    swap true = refl
+    swap false = refl
+zeros-more f q (suc n) = rw (zeros-more f (suc q) n, add-suc q n, suc-add q n) (assoc (eqb (f q) 0) (zeros f (suc q) n) (eqb (f (suc (q + n))) 0))
+  where
+    assoc : (a b c : Bool) → (a && (b && c)) ≡ ((a && b) && c)
+    assoc true b c = refl
+    assoc false b c = refl
+
 -- ---- a part written over
 
 pub length-over : (a n : ℕ) (f : ℕ → ℕ) (h : List ℕ) → length (over a n f h) ≡ length h
@@ -113,6 +135,25 @@ is-over a n f h g e into low high =
 pub over-ext : (a n : ℕ) (f g : ℕ → ℕ) (h : List ℕ) → ((q : ℕ) → a ≤ q → q < a + n → f q ≡ g q) → over a n f h ≡ over a n g h
 over-ext a n f g h e =
     is-over a n g h (over a n f h) (length-over a n f h) (λ q k x y. over-in a n f h q k x y ∙ e q x y) (over-below a n f h) (over-above a n f h)
+
+pub over-none : (a : ℕ) (f : ℕ → ℕ) (h : List ℕ) → over a 0 f h ≡ h
+over-none a f h = sym (is-over a 0 f h h refl (λ q k x y. absurd (omega arith)) (λ q k x. refl) (λ q k x. refl))
+
+-- one place more
+pub over-more : (a n : ℕ) (f : ℕ → ℕ) (h : List ℕ) → a + n < length h → set (over a n f h) (a + n) (f (a + n)) ≡ over a (suc n) f h
+over-more a n f h k =
+    is-over a (suc n) f h (set (over a n f h) (a + n) (f (a + n))) (simp (length-set, length-over))
+    (λ q u x y. into q u x y (test (eqb q (a + n))))
+    (λ q u x. getD-set-other (over a n f h) (a + n) q (f (a + n)) 0 (λ e. omega arith) ∙ over-below a n f h q u x)
+    (λ q u x. getD-set-other (over a n f h) (a + n) q (f (a + n)) 0 (λ e. omega arith) ∙ over-above a n f h q u (omega arith))
+  where
+    into : (q : ℕ) → q < length h → a ≤ q → q < a + suc n → Test (eqb q (a + n)) → at (set (over a n f h) (a + n) (f (a + n))) q ≡ f q
+    into q u x y (is-true e) =
+        let w : q ≡ a + n = eqb-true q (a + n) e in
+        rw w (getD-set-same (over a n f h) (a + n) (f (a + n)) 0 (rw (length-over a n f h) k))
+    into q u x y (is-false e) =
+        let w : q ≢ a + n = eqb-false q (a + n) e in
+        getD-set-other (over a n f h) (a + n) q (f (a + n)) 0 w ∙ over-in a n f h q u x (omega arith)
 
 -- ---- a part that was lent and has come back
 

@@ -37,4 +37,3 @@ offset-test a n b x =
     same-test (leb (a - b .base + n) (len b)) (holds a n b)
     (λ e. let h : a - b .base + n ≤ len b = leb-true (a - b .base + n) (len b) e in true-holds a n b x (omega arith))
     (λ e. let h = holds-true a n b e in le-leb (a - b .base + n) (len b) (omega arith))
-

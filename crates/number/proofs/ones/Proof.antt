@@ -1,0 +1,13 @@
+-- `number::ones` meets its contract. Assumes nothing.
+use mathlib.Core.Path.{_≡_}
+use native.Mathlib.Omega.{arith}
+use lib.Count.{ones-le}
+use Rattle.number.proofs.BitLaws.{ones-all}
+use Rattle.number.proofs.ones.Statement.{statement}
+use Rattle.number.proofs.ones.Tie as tie
+
+returns : tie.Need-returns
+returns c = (ones-all 8 (c .args .byte) (c .fits .byte .fits), ones-le 8 (c .args .byte) (c .fits .byte .fits))
+
+pub ones-spec : {M : Type 1} → statement M
+ones-spec = tie.close (tie.spec returns)

@@ -1,0 +1,16 @@
+use Rattle.number.proofs.BitLaws.{or-shl}
+use borrow.Author.Needs.{needs}
+use Rattle.number.proofs.with_bit.Statement.{statement}
+use Rattle.number.proofs.with_bit.Tie as tie
+
+cast-result : tie.Need-cast-result
+cast-result c = search needs
+
+shl-result : tie.Need-shl-result
+shl-result c = search needs
+
+returns : tie.Need-returns
+returns c = or-shl (c .args .byte) (c .args .j) (c .pre)
+
+pub with-bit-spec : {M : Type 1} → statement M
+with-bit-spec = tie.close (tie.spec cast-result shl-result returns)
