@@ -26,3 +26,8 @@ inPart a n q = leb a q && ltb q (a + n)
 -- the n bytes from place a on are those of f, every other byte stays
 unfoldable pub over : (a n : ℕ) → (ℕ → ℕ) → List ℕ → List ℕ
 over a n f h = tab 0 (length h) (λ q. cond (inPart a n q) (f q) (at h q))
+
+-- each element is so
+abbrev pub Each : {X : Type 0} → (X → Type 0) → List X → Type 0
+Each p [] = Unit {0}
+Each p (x ∷ xs) = p x × Each p xs

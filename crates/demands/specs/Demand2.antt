@@ -1,0 +1,61 @@
+-- Demand 2, what it says: readings look at nine bytes at most, a list of blocks has one image, an audit accepts exactly the images, and
+-- the list read back is the list it was made of. Each statement is proved in proofs/Demand2.antt. Assumes nothing.
+use mathlib.Core.Path.{_≡_}
+use mathlib.Core.Bool.{Bool, true}
+use mathlib.Core.List.{List}
+use mathlib.Core.Option.{Option, some}
+use Prim.Native.Nat.{ℕ, _≤_}
+use lib.ListN.{length}
+use Rattle.number.specs.Parts.{at, Each}
+use Rattle.map.specs.declared.Map.{Map}
+use Rattle.map.specs.Map.{goodMap}
+use Rattle.plain.specs.Block.{Block}
+use Rattle.plain.specs.Rules.{Placed}
+use Rattle.plain.specs.Areas.{mapRules}
+use Rattle.plain.specs.Reading.{Tally, tallyOf}
+use Rattle.plain.specs.Ops.{Ops, readAny}
+use Rattle.plain.specs.ReadBack.{readBack}
+use Rattle.shadows.specs.Shadows.{Shadows, lengthsFit, shadowOps, image}
+
+-- a byte of the three shadows
+pub data Place : Type 0 where
+  heap primary secondary : (position : ℕ) → Place
+
+abbrev pub byteAt : Shadows → Place → ℕ
+byteAt s (heap q) = at (s .0) q
+byteAt s (primary q) = at (s .1 .0) q
+byteAt s (secondary q) = at (s .1 .1) q
+
+-- the reading of any address depends on nine shadow bytes at most: shadows that agree on them read the same
+abbrev pub NineBytes : Type 0
+NineBytes =
+    (m : Map) (s : Shadows) (a : ℕ)
+    → (places : List Place) × (length places ≤ 9)
+    × ((t : Shadows) → Each (λ q. byteAt t q ≡ byteAt s q) places → readAny (mapRules m) (shadowOps m) t a ≡ readAny (mapRules m) (shadowOps m) s a)
+
+-- two placeable lists with the same image are the same list
+abbrev pub OneImage : Type 0
+OneImage =
+    (m : Map) → goodMap m ≡ true → (bs cs : List Block) → Placed (mapRules m) 0 bs → Placed (mapRules m) 0 cs → image m bs ≡ image m cs → bs ≡ cs
+
+-- the image of a placeable list has the right lengths and is accepted, with the list's totals
+abbrev pub AuditAccepts : Type 0
+AuditAccepts =
+    (m : Map) → goodMap m ≡ true → (bs : List Block) → Placed (mapRules m) 0 bs
+    → (lengthsFit m (image m bs) ≡ true) × (shadowOps m .audit (image m bs) ≡ some (tallyOf (mapRules m) bs))
+
+-- shadows of the right lengths that an audit accepts are the image of a placeable list, and the totals are that list's
+abbrev pub AuditOnly : Type 0
+AuditOnly =
+    (m : Map) → goodMap m ≡ true → (s : Shadows) → lengthsFit m s ≡ true → (t : Tally) → shadowOps m .audit s ≡ some t
+    → (bs : List Block) × Placed (mapRules m) 0 bs × (s ≡ image m bs) × (t ≡ tallyOf (mapRules m) bs)
+
+-- the list that the readings of an image tell is the list it was made of
+abbrev pub ReadBack : Type 0
+ReadBack = (m : Map) → goodMap m ≡ true → (bs : List Block) → Placed (mapRules m) 0 bs → readBack (mapRules m) (shadowOps m) (image m bs) ≡ bs
+
+-- the list that accepted shadows tell is placeable, and they are its image
+abbrev pub MadeOf : Type 0
+MadeOf =
+    (m : Map) → goodMap m ≡ true → (s : Shadows) → lengthsFit m s ≡ true → (t : Tally) → shadowOps m .audit s ≡ some t
+    → Placed (mapRules m) 0 (readBack (mapRules m) (shadowOps m) s) × (image m (readBack (mapRules m) (shadowOps m) s) ≡ s)
