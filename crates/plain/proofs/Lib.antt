@@ -1,3 +1,10 @@
 pub mod BlockLaws
 pub mod FindLaws
 pub mod ListLaws
+pub mod KeptLaws
+pub mod OnlyLaws
+pub mod JoinLaws
+pub mod LiftLaws
+pub mod AreaLaws
+pub mod ReadBackLaws
+pub mod ImageLaws

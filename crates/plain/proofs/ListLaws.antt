@@ -1,16 +1,16 @@
 -- The blocks of a list one by one, and the list's own readings and totals. Assumes nothing.
-use mathlib.Core.Path.{_≡_, refl, sym, ap, _∙_, subst}
-use mathlib.Core.Bool.{Bool, true, false, cond, _&&_}
+use mathlib.Core.Path.{_≡_, refl, subst}
+use mathlib.Core.Bool.{Bool, true, false, cond}
 use mathlib.Core.List.{List, [], _∷_}
 use mathlib.Core.Option.{Option, none, some}
-use Prim.Native.Nat.{ℕ, zero, suc, _+_, _-_, _≤_, _<_}
+use Prim.Native.Nat.{ℕ, _+_, _-_, _≤_, _<_}
 use native.Mathlib.Omega.{arith}
 use lib.ListN.{length}
 use Rattle.number.specs.Bits.{bit}
 use Rattle.number.proofs.TestLaws.{in-true, in-below, in-above}
 use Rattle.plain.specs.Block.{Block, len, contains, isWritten}
 use Rattle.plain.specs.Blocks.{find, total, count}
-use Rattle.plain.specs.Reading.{Reading, nothing, block, damaged, says, lookup}
+use Rattle.plain.specs.Reading.{block, says, lookup}
 use Rattle.plain.proofs.BlockLaws.{contains-true}
 
 -- b is one of the blocks
