@@ -6,7 +6,7 @@ use mathlib.Core.List.{List}
 use mathlib.Core.Option.{Option, some}
 use Prim.Native.Nat.{ℕ, _≤_}
 use lib.ListN.{length}
-use Rattle.number.specs.Parts.{at, Each}
+use Rattle.number.specs.Parts.{Each}
 use Rattle.map.specs.declared.Map.{Map}
 use Rattle.map.specs.Map.{goodMap}
 use Rattle.plain.specs.Block.{Block}
@@ -15,36 +15,28 @@ use Rattle.plain.specs.Areas.{mapRules}
 use Rattle.plain.specs.Reading.{Tally, tallyOf}
 use Rattle.plain.specs.Ops.{Ops, readAny}
 use Rattle.plain.specs.ReadBack.{readBack}
-use Rattle.shadows.specs.Shadows.{Shadows, lengthsFit, shadowOps, image}
+use Rattle.shadows.specs.Shadows.{Shadows, lengthsFit, shadowOps, image, byteAt, looks}
 
--- a byte of the three shadows
-pub data Place : Type 0 where
-  heap primary secondary : (position : ℕ) → Place
-
-abbrev pub byteAt : Shadows → Place → ℕ
-byteAt s (heap q) = at (s .0) q
-byteAt s (primary q) = at (s .1 .0) q
-byteAt s (secondary q) = at (s .1 .1) q
-
--- the reading of any address depends on nine shadow bytes at most: shadows that agree on them read the same
+-- a reading looks at nine shadow bytes at most: shadows that agree on the bytes it looks at read the same, and look at the same bytes
 abbrev pub NineBytes : Type 0
 NineBytes =
     (m : Map) (s : Shadows) (a : ℕ)
-    → (places : List Place) × (length places ≤ 9)
-    × ((t : Shadows) → Each (λ q. byteAt t q ≡ byteAt s q) places → readAny (mapRules m) (shadowOps m) t a ≡ readAny (mapRules m) (shadowOps m) s a)
+    → (length (looks m s a) ≤ 9)
+    × ((t : Shadows) → Each (λ q. byteAt t q ≡ byteAt s q) (looks m s a)
+    → (readAny (mapRules m) (shadowOps m) t a ≡ readAny (mapRules m) (shadowOps m) s a) × (looks m t a ≡ looks m s a))
 
--- two placeable lists with the same image are the same list
+-- two placed lists (placeable blocks in address order) with the same image are the same list
 abbrev pub OneImage : Type 0
 OneImage =
     (m : Map) → goodMap m ≡ true → (bs cs : List Block) → Placed (mapRules m) 0 bs → Placed (mapRules m) 0 cs → image m bs ≡ image m cs → bs ≡ cs
 
--- the image of a placeable list has the right lengths and is accepted, with the list's totals
+-- the image of a placed list has the right lengths and is accepted, with the list's totals
 abbrev pub AuditAccepts : Type 0
 AuditAccepts =
     (m : Map) → goodMap m ≡ true → (bs : List Block) → Placed (mapRules m) 0 bs
     → (lengthsFit m (image m bs) ≡ true) × (shadowOps m .audit (image m bs) ≡ some (tallyOf (mapRules m) bs))
 
--- shadows of the right lengths that an audit accepts are the image of a placeable list, and the totals are that list's
+-- shadows of the right lengths that an audit accepts are the image of a placed list, and the totals are that list's
 abbrev pub AuditOnly : Type 0
 AuditOnly =
     (m : Map) → goodMap m ≡ true → (s : Shadows) → lengthsFit m s ≡ true → (t : Tally) → shadowOps m .audit s ≡ some t
@@ -54,7 +46,7 @@ AuditOnly =
 abbrev pub ReadBack : Type 0
 ReadBack = (m : Map) → goodMap m ≡ true → (bs : List Block) → Placed (mapRules m) 0 bs → readBack (mapRules m) (shadowOps m) (image m bs) ≡ bs
 
--- the list that accepted shadows tell is placeable, and they are its image
+-- the list that accepted shadows tell is placed, and they are its image
 abbrev pub MadeOf : Type 0
 MadeOf =
     (m : Map) → goodMap m ≡ true → (s : Shadows) → lengthsFit m s ≡ true → (t : Tally) → shadowOps m .audit s ≡ some t

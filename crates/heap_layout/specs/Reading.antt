@@ -36,7 +36,8 @@ module _ (W G : ℕ) where
       (cond (leb L o) nothing
       (block base L o (writtenBit f p))))))))
 
-  -- the shadow bytes that the reading of position p looks at: the segment's number, the length in the header, the written bits
+  -- no shadow byte but these matters to the reading of position p: the segment's number, the length in the header that it tells, the byte of
+  -- written bits
   unfoldable pub heapLooks : (f : ℕ → ℕ) → (p : ℕ) → List ℕ
   heapLooks f p =
       let s = p / G * G in

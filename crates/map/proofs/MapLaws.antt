@@ -6,9 +6,25 @@ use native.Mathlib.Omega.{arith, by-contra}
 use lib.Dec.{leb}
 use borrow.Author.Tests.{le-leb, eq-eqb, ltb-true, leb-true, leb-false, eqb-true}
 use Rattle.number.proofs.TestLaws.{and-true, or-case, in-true, in-below}
-use Rattle.map.specs.Map.{goodArea, apart, goodMap, Good, within, areaOf}
+use Rattle.map.specs.Map.{goodArea, apart, goodMap, within, areaOf}
 use Rattle.map.specs.declared.Map.{Map}
 use Rattle.map.specs.declared.Area.the-variants.{Outside}
+
+-- the rules of a good map, as facts
+pub record Good (m : Map) : Type 0 where
+  pub heapStart8 : m .«heap_start» % 8 ≡ 0
+  pub heapSize8 : m .«heap_size» % 8 ≡ 0
+  pub stackStart8 : m .«stack_start» % 8 ≡ 0
+  pub stackSize8 : m .«stack_size» % 8 ≡ 0
+  pub heapLeast : 16 ≤ m .«heap_size»
+  pub heapMost : m .«heap_size» ≤ 131072
+  pub stackLeast : 16 ≤ m .«stack_size»
+  pub stackMost : m .«stack_size» ≤ 65536
+  pub heapFrom : 8 ≤ m .«heap_start»
+  pub stackFrom : 8 ≤ m .«stack_start»
+  pub heapEnd : m .«heap_start» + m .«heap_size» ≤ 4294967295
+  pub stackEnd : m .«stack_start» + m .«stack_size» ≤ 4294967295
+  pub noShare : m .«heap_start» < m .«stack_start» + m .«stack_size» → m .«stack_start» < m .«heap_start» + m .«heap_size» → ⊥
 
 pub within-true : (start size a : ℕ) → within start size a ≡ true → (start ≤ a) × (a < start + size)
 within-true start size a e =

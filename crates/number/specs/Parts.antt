@@ -23,7 +23,7 @@ zeros f q (suc n) = eqb (f q) 0 && zeros f (suc q) n
 abbrev pub inPart : (a n q : ℕ) → Bool
 inPart a n q = leb a q && ltb q (a + n)
 
--- the n bytes from place a on are those of f, every other byte stays
+-- each of the n bytes from place a on becomes f of its place, every other byte stays
 unfoldable pub over : (a n : ℕ) → (ℕ → ℕ) → List ℕ → List ℕ
 over a n f h = tab 0 (length h) (λ q. cond (inPart a n q) (f q) (at h q))
 

@@ -19,7 +19,7 @@ use Rattle.plain.specs.Rules.{Rules, Placed, Sound}
 use Rattle.plain.specs.Reading.{Reading, nothing, block, says, lookup}
 use Rattle.plain.specs.Ops.{Ops, readAny}
 use Rattle.plain.specs.Images.{Images}
-use Rattle.plain.specs.ReadBack.{saysWritten, begin, collect, readBack}
+use Rattle.plain.specs.ReadBack.{saysWritten, told, collect, readBack}
 use Rattle.plain.proofs.BlockLaws.{contains-true, true-contains, base-holds}
 use Rattle.plain.proofs.FindLaws.{keepIf, none-below, find-at, find-facts, none-outside, find-other}
 use Rattle.plain.proofs.KeptLaws.{base-inside}
@@ -59,10 +59,10 @@ module _ (R : Rules) (G : Sound R) where
             ) (bit-back (getD (b .marks) j false))
 
     -- a reading adds the block that begins at its address
-    begin-found : (a : ℕ) (rest : List Block) → begin (lookup bs) a (lookup bs a) rest ≡ addFound (find (hasBase a) bs) rest
-    begin-found a rest = rw (find-at R G bs 0 a (hasBase a) P (λ c k w. base-holds a c k w)) (go (find (contains a) bs) refl)
+    told-found : (a : ℕ) (rest : List Block) → told (lookup bs) (lookup bs a) rest ≡ addFound (find (hasBase a) bs) rest
+    told-found a rest = rw (find-at R G bs 0 a (hasBase a) P (λ c k w. base-holds a c k w)) (go (find (contains a) bs) refl)
       where
-        go : (o : Option Block) → find (contains a) bs ≡ o → begin (lookup bs) a (says a o) rest ≡ addFound (keepIf (hasBase a) o) rest
+        go : (o : Option Block) → find (contains a) bs ≡ o → told (lookup bs) (says a o) rest ≡ addFound (keepIf (hasBase a) o) rest
         go none e = refl
         go (some b) e = at (a - b .base) refl
           where
@@ -70,13 +70,13 @@ module _ (R : Rules) (G : Sound R) where
             h = contains-true a b (find-facts R G bs 0 (contains a) b P e .so)
 
             at : (o : ℕ) → a - b .base ≡ o
-                → begin (lookup bs) a (block (b .base) (len b) o (bit (isWritten b a))) rest ≡ addFound (cond (hasBase a b) (some b) none) rest
+                → told (lookup bs) (block (b .base) (len b) o (bit (isWritten b a))) rest ≡ addFound (cond (hasBase a b) (some b) none) rest
             at zero z = rw (eq-eqb (b .base) a (omega (arith, h)), marks-of a b e)
             at (suc o) z = rw (ne-eqb (b .base) a (omega (arith, h)))
 
   -- from p on, each address adds the block of cs that begins there
   collect-from : (rd : ℕ → Reading) (n p from : ℕ) (cs : List Block) → Placed R from cs → From p cs → R .top ≤ p + n
-      → ((q : ℕ) → p ≤ q → (rest : List Block) → begin rd q (rd q) rest ≡ addFound (find (hasBase q) cs) rest) → collect rd p n ≡ cs
+      → ((q : ℕ) → p ≤ q → (rest : List Block) → told rd (rd q) rest ≡ addFound (find (hasBase q) cs) rest) → collect rd p n ≡ cs
   unfolding collect find
   collect-from rd zero p from [] P F t h = refl
   collect-from rd zero p from (c ∷ cs) P F t h =
@@ -95,8 +95,8 @@ module _ (R : Rules) (G : Sound R) where
 
       go : Test (hasBase p c)
           → ((from : ℕ) (ds : List Block) → Placed R from ds → From (suc p) ds → R .top ≤ suc p + n
-          → ((q : ℕ) → suc p ≤ q → (rest : List Block) → begin rd q (rd q) rest ≡ addFound (find (hasBase q) ds) rest) → collect rd (suc p) n ≡ ds)
-          → begin rd p (rd p) (collect rd (suc p) n) ≡ c ∷ cs
+          → ((q : ℕ) → suc p ≤ q → (rest : List Block) → told rd (rd q) rest ≡ addFound (find (hasBase q) ds) rest) → collect rd (suc p) n ≡ ds)
+          → told rd (rd p) (collect rd (suc p) n) ≡ c ∷ cs
       go (is-true e) ih =
           let b : c .base ≡ p = eqb-true (c .base) p e in
           h p (omega arith) (collect rd (suc p) n) ∙ rw e (ap (λ (r : List Block). c ∷ r)
@@ -112,7 +112,7 @@ module _ (R : Rules) (G : Sound R) where
   from-zero (c ∷ cs) = omega arith
 
   pub collect-lookup : (bs : List Block) → Placed R 0 bs → collect (lookup bs) 0 (R .top) ≡ bs
-  collect-lookup bs P = collect-from (lookup bs) (R .top) 0 0 bs P (from-zero bs) (omega arith) (λ q k rest. begin-found bs P q rest)
+  collect-lookup bs P = collect-from (lookup bs) (R .top) 0 0 bs P (from-zero bs) (omega arith) (λ q k rest. told-found bs P q rest)
 
   pub read-image : {S : Type 0} (O : Ops S) (image : List Block → S) → Images R O image → (bs : List Block) → Placed R 0 bs
       → readBack R O (image bs) ≡ bs

@@ -32,11 +32,11 @@ hasBase x b = eqb (b .base) x
 abbrev pub isWritten : Block → ℕ → Bool
 isWritten b a = getD (b .marks) (a - b .base) false
 
--- each of the n addresses from a on is a written byte of the block
+-- each of the n addresses from a on, which the block holds, is written
 unfoldable pub allWritten : (a n : ℕ) → Block → Bool
 allWritten a zero b = true
 allWritten a (suc n) b = isWritten b a && allWritten (suc a) n b
 
--- the byte at the address counts as written
+-- the byte at an address that the block holds counts as written
 abbrev pub markBlock : ℕ → Block → Block
 markBlock a b = record { base = b .base; marks = set (b .marks) (a - b .base) true }

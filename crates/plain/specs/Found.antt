@@ -22,7 +22,7 @@ abbrev pub begins : ℕ → Found → Found
 begins base bad = bad
 begins base (got ms bs) = got [] (record { base = base; marks = ms } ∷ bs)
 
--- the totals of what was found
+-- the totals of what a whole walk found: it begins with no block going on, so that no marks stand before the first block
 abbrev pub totals : Rules → Found → Option Tally
 totals R bad = none
 totals R (got ms bs) = some (tallyOf R bs)

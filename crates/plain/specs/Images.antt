@@ -1,4 +1,5 @@
--- What it is for shadow states to be images of lists of blocks: the laws that every layout meets. Assumes nothing.
+-- What it is for shadow states to be images of lists of blocks: the laws that every layout meets. Interface of the proofs: no demand rests
+-- on it. Assumes nothing.
 use mathlib.Core.Path.{_≡_}
 use mathlib.Core.Bool.{Bool, true, false, not}
 use mathlib.Core.List.{List, []}

@@ -48,7 +48,7 @@ only p (c ∷ cs) = cond (p (c .base)) (c ∷ only p cs) (only p cs)
 abbrev pub joinImage : {X Y : Type 0} → Rules → Rules → (List Block → X) → (List Block → Y) → List Block → X × Y
 joinImage A B imA imB bs = (imA (only (A .inside) bs), imB (only (B .inside) bs))
 
--- the areas share no address, and no footprint of the one meets one of the other
+-- the areas share no address, and no footprint of the one meets one of the other. Interface of the proofs: no demand rests on it
 pub record Separate (A B : Rules) : Type 0 where
   pub no-share : (a : ℕ) → A .inside a ≡ true → B .inside a ≡ true → ⊥
   pub no-meet : (b l b′ l′ : ℕ) → 1 ≤ l → 1 ≤ l′ → A .fits b l ≡ true → A .aligned b ≡ true → B .fits b′ l′ ≡ true → B .aligned b′ ≡ true

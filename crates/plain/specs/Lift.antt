@@ -8,7 +8,7 @@ use Rattle.plain.specs.Rules.{Rules}
 use Rattle.plain.specs.Reading.{Reading, nothing, block, damaged}
 use Rattle.plain.specs.Ops.{Ops}
 
--- A's addresses are E's positions, from the start s on
+-- each address of A is a position of E, from the start s on. Interface of the proofs: no demand rests on it
 pub record Shifted (s : ℕ) (A E : Rules) : Type 0 where
   pub s-inside : (a : ℕ) → A .inside a ≡ true → (s ≤ a) × (E .inside (a - s) ≡ true)
   pub s-fits : (b l : ℕ) → A .fits b l ≡ true → (s ≤ b) × (E .fits (b - s) l ≡ true)

@@ -1,4 +1,4 @@
--- The operations on a shadow state, of whatever layout. Assumes nothing.
+-- The operations on a shadow state, of whatever layout: by addresses, or by positions in a layout's own instance. Assumes nothing.
 use mathlib.Core.Bool.{Bool, true, false, cond, _&&_}
 use mathlib.Core.Option.{Option}
 use Prim.Native.Nat.{ℕ, zero, suc}

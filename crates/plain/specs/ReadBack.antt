@@ -14,17 +14,17 @@ saysWritten nothing = false
 saysWritten damaged = false
 saysWritten (block b l o m) = eqb m 1
 
--- what the reading of address a adds to the blocks after it: its marks are those that the readings of its bytes tell
-abbrev pub begin : (ℕ → Reading) → ℕ → Reading → List Block → List Block
-begin rd a nothing bs = bs
-begin rd a damaged bs = bs
-begin rd a (block b l zero m) bs = record { base = b; marks = tab 0 l (λ i. saysWritten (rd (b + i))) } ∷ bs
-begin rd a (block b l (suc o) m) bs = bs
+-- what a reading adds to the blocks after it: with offset 0 a block, with the marks that the readings of its bytes tell
+abbrev pub told : (ℕ → Reading) → Reading → List Block → List Block
+told rd nothing bs = bs
+told rd damaged bs = bs
+told rd (block b l zero m) bs = record { base = b; marks = tab 0 l (λ i. saysWritten (rd (b + i))) } ∷ bs
+told rd (block b l (suc o) m) bs = bs
 
 -- the n addresses from a on
 unfoldable pub collect : (ℕ → Reading) → (a n : ℕ) → List Block
 collect rd a zero = []
-collect rd a (suc n) = begin rd a (rd a) (collect rd (suc a) n)
+collect rd a (suc n) = told rd (rd a) (collect rd (suc a) n)
 
 -- the list that a shadow state tells: the readings of all addresses below the end of the areas
 abbrev pub readBack : {S : Type 0} → Rules → Ops S → S → List Block

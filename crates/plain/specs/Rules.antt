@@ -16,7 +16,7 @@ pub record Rules : Type 0 where
   -- the footprint of a block of this base and length: from low to before high
   pub low : ℕ → ℕ → ℕ
   pub high : ℕ → ℕ → ℕ
-  -- the address is one of the heap's
+  -- of an address inside: it is the heap's
   pub heap : ℕ → Bool
   -- every area ends at or below
   pub top : ℕ
@@ -25,8 +25,8 @@ pub record Rules : Type 0 where
 unfoldable pub meets : Rules → (base length : ℕ) → Block → Bool
 meets R b l c = ltb (R .low b l) (R .high (c .base) (len c)) && ltb (R .low (c .base) (len c)) (R .high b l)
 
--- the placing rules: each block has a byte, fits and is aligned; the list is in address order, no footprint meets another,
--- and none begins below `from`
+-- a placed list keeps the placing rules: each block has a byte, fits and is aligned; the list is in address order, no footprint meets
+-- another, and none begins below `from`
 abbrev pub Placed : Rules → (from : ℕ) → List Block → Type 0
 Placed R from [] = Unit {0}
 Placed R from (b ∷ bs) =
@@ -38,7 +38,7 @@ Placed R from (b ∷ bs) =
       later : Placed R (R .high (b .base) (len b)) bs;
     }
 
--- what the rules of every area keep
+-- what the rules of every area keep. Interface of the proofs: no demand rests on it
 pub record Sound (R : Rules) : Type 0 where
   pub low-base : (b l : ℕ) → R .fits b l ≡ true → R .low b l ≤ b
   pub high-end : (b l : ℕ) → b + l ≤ R .high b l

@@ -1,10 +1,12 @@
 -- The three shadows of a map: their lengths, the operations on them by addresses, and the image of a list of blocks. Assumes nothing.
-use mathlib.Core.Bool.{Bool, _&&_}
-use mathlib.Core.List.{List}
-use Prim.Native.Nat.{ℕ}
+use mathlib.Core.Bool.{Bool, cond, _&&_}
+use mathlib.Core.List.{List, [], map}
+use Prim.Native.Nat.{ℕ, _-_}
 use lib.ListN.{length}
 use lib.Dec.{eqb}
+use Rattle.number.specs.Parts.{at}
 use Rattle.map.specs.declared.Map.{Map}
+use Rattle.map.specs.Map.{within}
 use Rattle.plain.specs.Block.{Block}
 use Rattle.plain.specs.Areas.{heapRules, stackRules}
 use Rattle.plain.specs.Ops.{Ops}
@@ -12,8 +14,11 @@ use Rattle.plain.specs.Lift.{liftOps, downs}
 use Rattle.plain.specs.Join.{joinOps, joinImage}
 use Rattle.heap_layout.specs.Image.{heapImage}
 use Rattle.heap_layout.specs.Ops.{heapOps}
+use Rattle.heap_layout.specs.Reading.{heapLooks}
 use Rattle.stack_layout.specs.Image.{stackImage}
 use Rattle.stack_layout.specs.Ops.{stackOps}
+use Rattle.stack_layout.specs.Reading as stack
+use Rattle.stack_layout.specs.Reading.{stackLooks}
 
 -- the heap shadow; primary and secondary
 abbrev pub Shadows : Type 0
@@ -34,3 +39,25 @@ abbrev pub image : Map → List Block → Shadows
 image m =
     joinImage (heapRules 8 (m .«heap_start») (m .«heap_size»)) (stackRules (m .«stack_start») (m .«stack_size»))
     (λ bs. heapImage 4 8 (m .«heap_size») (downs (m .«heap_start») bs)) (λ bs. stackImage (m .«stack_size») (downs (m .«stack_start») bs))
+
+-- a byte of the three shadows
+pub data Place : Type 0 where
+  heap : (position : ℕ) → Place
+  primary : (position : ℕ) → Place
+  secondary : (position : ℕ) → Place
+
+abbrev pub byteAt : Shadows → Place → ℕ
+byteAt s (heap q) = at (s .0) q
+byteAt s (primary q) = at (s .1 .0) q
+byteAt s (secondary q) = at (s .1 .1) q
+
+abbrev pub stackPlace : stack.Place → Place
+stackPlace (stack.primary q) = primary q
+stackPlace (stack.secondary q) = secondary q
+
+-- the shadow bytes that matter to the reading of an address: in the heap four, four chosen by those, and one; in the stack one, and eight
+-- chosen by it
+abbrev pub looks : Map → Shadows → (a : ℕ) → List Place
+looks m s a =
+    cond (within (m .«heap_start») (m .«heap_size») a) (map heap (heapLooks 4 8 (at (s .0)) (a - m .«heap_start»)))
+    (cond (within (m .«stack_start») (m .«stack_size») a) (map stackPlace (stackLooks (at (s .1 .0)) (a - m .«stack_start»))) [])
