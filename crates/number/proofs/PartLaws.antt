@@ -10,7 +10,7 @@ use lib.ListN.{length, getD, take, drop, replicate, length-append, length-take, 
 use lib.Seq.{getD-take, getD-drop, getD-append-add, ext-getD, length-take-le, getD-set-same, getD-set-other}
 use lib.Dec.{leb, ltb, eqb}
 use borrow.Author.Tests.{eq-eqb, ltb-true, ltb-false, eqb-true, eqb-false}
-use Rattle.number.specs.Parts.{at, tab, zeros, inPart, over}
+use Rattle.number.specs.Parts.{at, tab, zeros, inPart, over, Each}
 use Rattle.number.proofs.TestLaws.{Test, is-true, is-false, test, and-true, in-true, in-below, in-above, Where, below, inside, above, locate}
 
 -- ---- a table of a function
@@ -136,6 +136,12 @@ pub over-ext : (a n : ℕ) (f g : ℕ → ℕ) (h : List ℕ) → ((q : ℕ) →
 over-ext a n f g h e =
     is-over a n g h (over a n f h) (length-over a n f h) (λ q k x y. over-in a n f h q k x y ∙ e q x y) (over-below a n f h) (over-above a n f h)
 
+-- a part written over in the table of g makes the table of h
+pub over-tab : (size a n : ℕ) (f g h : ℕ → ℕ) → ((q : ℕ) → cond (inPart a n q) (f q) (g q) ≡ h q) → over a n f (tab 0 size g) ≡ tab 0 size h
+over-tab size a n f g h e =
+    is-tab size (over a n f (tab 0 size g)) h (length-over a n f (tab 0 size g) ∙ length-tab 0 size g)
+    (λ q k. at-over a n f (tab 0 size g) q (rw (length-tab 0 size g) k) ∙ rw (at-tab size q g k) (e q))
+
 pub over-none : (a : ℕ) (f : ℕ → ℕ) (h : List ℕ) → over a 0 f h ≡ h
 over-none a f h = sym (is-over a 0 f h h refl (λ q k x y. absurd (omega arith)) (λ q k x. refl) (λ q k x. refl))
 
@@ -188,3 +194,11 @@ over-part xs last a n f h e k =
   where
     tail : (i : ℕ) → at (drop ((a + n) - a) (drop a xs)) i ≡ at xs (a + n + i)
     tail i = rw (add-sub-cancel-left a n, getD-drop n (drop a xs) i 0, getD-drop a xs (n + i) 0, native.Mathlib.Nat.add-assoc)
+
+-- ---- each element of a table
+
+pub each-tab : {X : Type 0} (P : X → Type 0) (f : ℕ → X) (a n i : ℕ) → Each P (tab a n f) → i < n → P (f (a + i))
+unfolding tab
+each-tab P f a zero i h k = absurd (omega arith)
+each-tab P f a (suc n) zero h k = rw add-zero (h .0)
+each-tab P f a (suc n) (suc i) h k = rw (add-suc a i, ← suc-add a i) (each-tab P f (suc a) n i (h .1) (omega arith))

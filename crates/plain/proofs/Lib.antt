@@ -8,3 +8,4 @@ pub mod LiftLaws
 pub mod AreaLaws
 pub mod ReadBackLaws
 pub mod ImageLaws
+pub mod LayerLaws

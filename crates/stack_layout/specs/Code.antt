@@ -1,5 +1,5 @@
 -- The codes of the stack layout: what byte i of a block of length L has in primary and secondary. Assumes nothing.
-use mathlib.Core.Bool.{Bool, true, false, cond}
+use mathlib.Core.Bool.{cond}
 use Prim.Native.Nat.{ℕ, zero, suc, _+_, _*_, _-_, _/_, min}
 use lib.Dec.{leb, ltb}
 use Rattle.number.specs.Little.{byteOf}

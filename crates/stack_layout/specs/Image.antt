@@ -1,8 +1,6 @@
 -- The stack layout: what a list of blocks makes of each byte of the primary and the secondary shadow. Positions. Assumes nothing.
 use mathlib.Core.List.{List}
 use Prim.Native.Nat.{ℕ, _-_}
-use lib.ListN.{getD}
-use mathlib.Core.Bool.{Bool, true, false}
 use Rattle.number.specs.Bits.{bit}
 use Rattle.number.specs.Parts.{tab}
 use Rattle.plain.specs.Block.{Block, len, contains, isWritten}

@@ -1,10 +1,9 @@
 -- The audit's walk over the bytes of two stack shadows: the blocks of which they are the image, or bad. Assumes nothing.
-use mathlib.Core.Bool.{Bool, true, false, cond, _&&_}
-use mathlib.Core.List.{List, [], _∷_}
+use mathlib.Core.Bool.{Bool, cond, _&&_}
+use mathlib.Core.List.{[], _∷_}
 use Prim.Native.Nat.{ℕ, zero, suc, _+_, _/_, _%_}
-use lib.Dec.{leb, ltb, eqb}
+use lib.Dec.{leb, eqb}
 use Rattle.number.specs.Little.{word}
-use Rattle.number.specs.Bits.{bit}
 use Rattle.plain.specs.Found.{Found, bad, got, goesOn, begins}
 use Rattle.stack_layout.specs.Code.{primaryOf, secondaryOf, shortLength}
 

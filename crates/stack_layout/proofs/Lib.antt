@@ -1,0 +1,9 @@
+pub mod TableLaws
+pub mod CodeLaws
+pub mod ReadingLaws
+pub mod LooksLaws
+pub mod ImageLaws
+pub mod ChangeLaws
+pub mod RestLaws
+pub mod WalkLaws
+pub mod LayoutLaws
