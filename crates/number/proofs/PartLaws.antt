@@ -6,9 +6,9 @@ use mathlib.Core.Logic.{_≢_}
 use Prim.Native.Nat.{ℕ, zero, suc, _+_, _-_, _≤_, _<_, suc-le-suc}
 use native.Mathlib.Omega.{arith}
 use native.Mathlib.Nat.{add-zero, zero-add, add-suc, suc-add, add-sub-cancel-left}
-use lib.ListN.{length, getD, take, drop, replicate, length-append, length-take, length-drop, set, length-set, List·getD-append, List·getD-eq-default, getD-replicate}
+use lib.ListN.{length, getD, take, drop, replicate, length-append, length-take, length-drop, set, length-set, List·getD-append, List·getD-eq-default}
 use lib.Seq.{getD-take, getD-drop, getD-append-add, ext-getD, length-take-le, getD-set-same, getD-set-other}
-use lib.Dec.{leb, ltb, eqb}
+use lib.Dec.{ltb, eqb}
 use borrow.Author.Tests.{eq-eqb, ltb-true, ltb-false, eqb-true, eqb-false}
 use Rattle.number.specs.Parts.{at, tab, zeros, inPart, over, Each}
 use Rattle.number.proofs.TestLaws.{Test, is-true, is-false, test, and-true, in-true, in-below, in-above, Where, below, inside, above, locate}
@@ -195,7 +195,11 @@ over-part xs last a n f h e k =
     tail : (i : ℕ) → at (drop ((a + n) - a) (drop a xs)) i ≡ at xs (a + n + i)
     tail i = rw (add-sub-cancel-left a n, getD-drop n (drop a xs) i 0, getD-drop a xs (n + i) 0, native.Mathlib.Nat.add-assoc)
 
--- ---- each element of a table
+-- ---- each element of a list, of a table
+
+pub each-append : {X : Type 0} (P : X → Type 0) (xs ys : List X) → Each P (xs ++ ys) → Each P xs × Each P ys
+each-append P [] ys h = (tt, h)
+each-append P (x ∷ xs) ys h = let r = each-append P xs ys (h .1) in ((h .0, r .0), r .1)
 
 pub each-tab : {X : Type 0} (P : X → Type 0) (f : ℕ → X) (a n i : ℕ) → Each P (tab a n f) → i < n → P (f (a + i))
 unfolding tab

@@ -3,7 +3,7 @@ use mathlib.Core.Path.{_≡_, refl, sym, _∙_}
 use mathlib.Core.Bool.{Bool, true, false, cond, _&&_, _||_, true≢false, false≢true}
 use Prim.Native.Nat.{ℕ, _≤_, _<_}
 use lib.Dec.{leb, ltb, eqb}
-use borrow.Author.Tests.{lt-ltb, le-ltb, le-leb, lt-leb, eq-eqb, ne-eqb, ltb-true, ltb-false, eqb-true, eqb-false}
+use borrow.Author.Tests.{lt-ltb, le-ltb, le-leb, lt-leb, eq-eqb, ltb-true, ltb-false, leb-true, eqb-true}
 
 -- a test passes or fails
 pub data Test (b : Bool) : Type 0 where
@@ -63,6 +63,9 @@ in-below lo hi p a = rw (lt-leb lo p a)
 
 pub in-above : (lo hi p : ℕ) → hi ≤ p → (leb lo p && ltb p hi) ≡ false
 in-above lo hi p a = and-false-r (leb lo p) (ltb p hi) (le-ltb p hi a)
+
+pub in-facts : (lo hi p : ℕ) → (leb lo p && ltb p hi) ≡ true → (lo ≤ p) × (p < hi)
+in-facts lo hi p e = let t = and-true (leb lo p) (ltb p hi) e in (leb-true lo p (t .0), ltb-true p hi (t .1))
 
 -- where p lies
 pub data Where (lo hi p : ℕ) : Type 0 where

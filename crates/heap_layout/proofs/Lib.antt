@@ -1,0 +1,11 @@
+pub mod SegmentLaws
+pub mod CellLaws
+pub mod ReadingLaws
+pub mod LooksLaws
+pub mod ReadImage
+pub mod StampLaws
+pub mod MarkLaws
+pub mod WalkLaws
+pub mod WalkSound
+pub mod WalkComplete
+pub mod HeapImages

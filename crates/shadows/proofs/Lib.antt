@@ -1,0 +1,2 @@
+pub mod ShadowLaws
+pub mod LookLaws
