@@ -1,9 +1,9 @@
 -- Demand 2, what it says: readings look at nine bytes at most, a list of blocks has one image, an audit accepts exactly the images, and
 -- the list read back is the list it was made of. Each statement is proved in proofs/Demand2.antt. Assumes nothing.
 use mathlib.Core.Path.{_≡_}
-use mathlib.Core.Bool.{Bool, true}
+use mathlib.Core.Bool.{true}
 use mathlib.Core.List.{List}
-use mathlib.Core.Option.{Option, some}
+use mathlib.Core.Option.{some}
 use Prim.Native.Nat.{ℕ, _≤_}
 use lib.ListN.{length}
 use Rattle.number.specs.Parts.{Each}
@@ -13,7 +13,7 @@ use Rattle.plain.specs.Block.{Block}
 use Rattle.plain.specs.Rules.{Placed}
 use Rattle.plain.specs.Areas.{mapRules}
 use Rattle.plain.specs.Reading.{Tally, tallyOf}
-use Rattle.plain.specs.Ops.{Ops, readAny}
+use Rattle.plain.specs.Ops.{readAny}
 use Rattle.plain.specs.ReadBack.{readBack}
 use Rattle.shadows.specs.Shadows.{Shadows, lengthsFit, shadowOps, image, byteAt, looks}
 

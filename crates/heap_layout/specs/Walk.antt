@@ -1,5 +1,5 @@
 -- The audit's walk over the segments of a heap shadow: the blocks of which it is the image, or bad. Assumes nothing.
-use mathlib.Core.Bool.{Bool, true, false, cond, _&&_}
+use mathlib.Core.Bool.{Bool, true, cond, _&&_}
 use mathlib.Core.List.{List, []}
 use Prim.Native.Nat.{ℕ, zero, suc, _+_, _*_, _-_, min}
 use lib.Dec.{leb, eqb}

@@ -1,7 +1,5 @@
 -- What the code's answers stand for. Assumes nothing.
 use mathlib.Core.Option.{Option, none, some}
-use Prim.Native.Nat.{ℕ}
-use Rattle.map.specs.declared.Position.{Position}
 use Rattle.plain.specs.declared.Reading as code
 use Rattle.plain.specs.declared.Reading.the-variants.{Nothing, Block, Damaged}
 use Rattle.plain.specs.declared.Audit.{Audit}

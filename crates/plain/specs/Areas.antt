@@ -1,5 +1,5 @@
 -- The rules of the two kinds of area, and of a map. Assumes nothing.
-use mathlib.Core.Bool.{Bool, true, false, _&&_}
+use mathlib.Core.Bool.{true, false, _&&_}
 use Prim.Native.Nat.{ℕ, _+_, _*_, _-_, _/_, _%_}
 use lib.Dec.{leb, eqb}
 use Rattle.map.specs.declared.Map.{Map}

@@ -1,9 +1,9 @@
 -- What it is for shadow states to be images of lists of blocks: the laws that every layout meets. Interface of the proofs: no demand rests
 -- on it. Assumes nothing.
 use mathlib.Core.Path.{_≡_}
-use mathlib.Core.Bool.{Bool, true, false, not}
+use mathlib.Core.Bool.{true, false, not}
 use mathlib.Core.List.{List, []}
-use mathlib.Core.Option.{Option, some}
+use mathlib.Core.Option.{some}
 use Prim.Native.Nat.{ℕ, _≤_}
 use Rattle.plain.specs.Block.{Block, len, contains, hasBase, isWritten}
 use Rattle.plain.specs.Blocks.{find, any, insert, remove, markOne}

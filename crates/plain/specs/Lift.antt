@@ -1,6 +1,6 @@
 -- Shadows count positions from 0, calls count addresses: position = address − start. Assumes nothing.
 use mathlib.Core.Path.{_≡_}
-use mathlib.Core.Bool.{Bool, true, false}
+use mathlib.Core.Bool.{true}
 use mathlib.Core.List.{List, map}
 use Prim.Native.Nat.{ℕ, _+_, _-_, _≤_}
 use Rattle.plain.specs.Block.{Block}

@@ -1,5 +1,5 @@
 -- The operations on a shadow state, of whatever layout: by addresses, or by positions in a layout's own instance. Assumes nothing.
-use mathlib.Core.Bool.{Bool, true, false, cond, _&&_}
+use mathlib.Core.Bool.{Bool, true, cond, _&&_}
 use mathlib.Core.Option.{Option}
 use Prim.Native.Nat.{ℕ, zero, suc}
 use Rattle.plain.specs.Block.{Block}

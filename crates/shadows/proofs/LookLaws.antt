@@ -1,6 +1,6 @@
 -- The reading of an address looks at nine shadow bytes at most. Assumes nothing.
-use mathlib.Core.Path.{_≡_, refl, sym, ap, _∙_}
-use mathlib.Core.Bool.{Bool, true, false, cond}
+use mathlib.Core.Path.{_≡_, refl}
+use mathlib.Core.Bool.{Bool, true, false}
 use mathlib.Core.List.{List, [], _∷_, map}
 use Prim.Native.Nat.{ℕ, _-_, _≤_}
 use native.Mathlib.Omega.{arith}
@@ -10,14 +10,12 @@ use Rattle.number.proofs.TestLaws.{Test, is-true, is-false, test}
 use Rattle.map.specs.declared.Map.{Map}
 use Rattle.map.specs.Map.{within}
 use Rattle.plain.specs.Areas.{mapRules}
-use Rattle.plain.specs.Reading.{Reading, nothing}
-use Rattle.plain.specs.Lift.{readingUp}
 use Rattle.plain.specs.Ops.{readAny}
-use Rattle.heap_layout.specs.Reading.{heapReading, heapLooks}
+use Rattle.heap_layout.specs.Reading.{heapLooks}
 use Rattle.heap_layout.proofs.LooksLaws as heaps
 use Rattle.heap_layout.proofs.LooksLaws.{length-looks, heap-looks}
 use Rattle.stack_layout.specs.Reading as stack
-use Rattle.stack_layout.specs.Reading.{stackReading, stackLooks}
+use Rattle.stack_layout.specs.Reading.{stackLooks}
 use Rattle.stack_layout.proofs.LooksLaws.{looks-nine, Agree, reading-same, looks-same}
 use Rattle.shadows.specs.Shadows.{Shadows, shadowOps, Place, heap, byteAt, stackPlace, looks}
 

@@ -1,8 +1,8 @@
 -- The three shadows of a good map meet the laws of images, both ways. Assumes nothing.
-use mathlib.Core.Path.{_≡_, refl, ap, _∙_}
-use mathlib.Core.Bool.{Bool, true, _&&_}
+use mathlib.Core.Path.{_≡_}
+use mathlib.Core.Bool.{true, _&&_}
 use mathlib.Core.List.{List}
-use Prim.Native.Nat.{ℕ, _≤_, _<_}
+use Prim.Native.Nat.{ℕ}
 use native.Mathlib.Omega.{arith}
 use lib.ListN.{length}
 use lib.Dec.{eqb}
@@ -15,7 +15,6 @@ use Rattle.map.proofs.MapLaws.{Good, good-true}
 use Rattle.plain.specs.Block.{Block}
 use Rattle.plain.specs.Rules.{Rules, Sound}
 use Rattle.plain.specs.Areas.{heapRules, stackRules, mapRules}
-use Rattle.plain.specs.Ops.{Ops}
 use Rattle.plain.specs.Images.{Images, Scanned}
 use Rattle.plain.specs.Lift.{liftOps, downs}
 use Rattle.plain.specs.Join.{Separate}

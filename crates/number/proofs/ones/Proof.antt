@@ -1,6 +1,4 @@
 -- `number::ones` meets its contract. Assumes nothing.
-use mathlib.Core.Path.{_≡_}
-use native.Mathlib.Omega.{arith}
 use lib.Count.{ones-le}
 use Rattle.number.proofs.BitLaws.{ones-all}
 use Rattle.number.proofs.ones.Statement.{statement}
