@@ -1,0 +1,184 @@
+// The heap layout at segments of 8 bytes and numbers of 4, on one shadow: reading, placing, written bits, audit. Positions.
+mod walk;
+
+use map::Position;
+use plain::Audit;
+use plain::Reading;
+use walk::Moved;
+use walk::Walk;
+ghost use mathlib.Core.Path.{_≡_};
+ghost use Prim.Native.Nat.{_+_, _-_, _%_, _≤_, _<_};
+ghost use lib.ListN.{length};
+ghost use Rattle.number.specs.Parts.{at, over};
+ghost use Rattle.plain.specs.Answers.{readingOf, heapTally};
+ghost use Rattle.plain.specs.Block.{fresh};
+ghost use Rattle.plain.specs.Ops.{markRange, rangeMarked};
+ghost use Rattle.heap_layout.specs.Reading.{heapReading};
+ghost use Rattle.heap_layout.specs.Ops.{placeLength, heapVacant, heapStamp, heapErase, heapMark, heapMarked, heapOps};
+ghost use Rattle.heap.specs.Pair.{pairByte};
+
+// The reading of a position. That L = 0 is damaged needs no test: then w − 1 ≥ L.
+pub fn read(heap: &[u8], p: Position) -> Reading
+    requires { ⌜ (p .0 < length (now heap)) × (length (now heap) % 8 ≡ 0) × (length (now heap) ≤ 131072) ⌝ }
+    ensures { λ r. ⌜ readingOf r ≡ heapReading 4 8 (length (now (heap .entry))) (at (now (heap .entry))) (p .0) ⌝ }
+{
+    let Position(at) = p;
+    let segment = at / 8 * 8;
+    let w = number::number_at(heap, segment);
+    if w == 0 {
+        return Reading::Nothing;
+    }
+    let d = (w - 1) as usize;
+    if d % 8 != 0 {
+        return Reading::Damaged;
+    }
+    if segment < d + 8 {
+        return Reading::Damaged;
+    }
+    let base = segment - d;
+    let middle = base - 4;
+    let length = number::number(&heap[middle..base]);
+    let len = length as usize;
+    if heap.len() < base + len {
+        return Reading::Damaged;
+    }
+    if len <= d {
+        return Reading::Damaged;
+    }
+    let offset = at - base;
+    if len <= offset {
+        return Reading::Nothing;
+    }
+    let written = number::bit(heap[segment + 4], (at % 8) as u32);
+    Reading::Block(Position(base), length, offset as u32, written)
+}
+
+// How many shadow bytes a block takes: its header and its whole segments.
+fn place_length(len: u32) -> usize
+    ensures { λ r. ⌜ (r ≡ placeLength 8 len) × (r % 8 ≡ 0) × (r < len + 16) ⌝ }
+{
+    8 + (len as usize + 7) / 8 * 8
+}
+
+// Whether each shadow byte of a block's place is zero.
+pub fn vacant(heap: &[u8], base: Position, len: u32) -> bool
+    requires { ⌜ (8 ≤ base .0) × (base .0 % 8 ≡ 0) × (base .0 + len ≤ length (now heap)) ⌝ }
+    requires { ⌜ (1 ≤ len) × (length (now heap) % 8 ≡ 0) × (length (now heap) ≤ 131072) ⌝ }
+    ensures { λ r. ⌜ r ≡ heapVacant 4 8 (now (heap .entry)) (base .0) len ⌝ }
+{
+    let Position(b) = base;
+    number::zero_at(heap, b - 8, place_length(len))
+}
+
+// Zeros in a block's place.
+pub fn erase(heap: &mut [u8], base: Position, len: u32)
+    requires { ⌜ (8 ≤ base .0) × (base .0 % 8 ≡ 0) × (base .0 + len ≤ length (now heap)) ⌝ }
+    requires { ⌜ (1 ≤ len) × (length (now heap) % 8 ≡ 0) × (length (now heap) ≤ 131072) ⌝ }
+    ensures { λ _. ⌜ now (heap .exit) ≡ heapErase 4 8 (now (heap .entry)) (base .0) len ⌝ }
+{
+    let Position(b) = base;
+    number::fill_zero_at(heap, b - 8, place_length(len));
+}
+
+// Two numbers into the segment at a place.
+fn put_segment(heap: &mut [u8], at: usize, low: u32, high: u32)
+    requires { ⌜ at + 8 ≤ length (now heap) ⌝ }
+    ensures { λ _. ⌜ now (heap .exit) ≡ over at 8 (λ q. pairByte 4 low high (q - at)) (now (heap .entry)) ⌝ }
+{
+    number::put_at(heap, at, low);
+    number::put_at(heap, at + 4, high);
+}
+
+// The header of a block, and for each of its segments the number and four zeros: nothing is written yet.
+pub fn stamp(heap: &mut [u8], base: Position, len: u32)
+    requires { ⌜ (8 ≤ base .0) × (base .0 % 8 ≡ 0) × (base .0 + len ≤ length (now heap)) ⌝ }
+    requires { ⌜ (1 ≤ len) × (length (now heap) % 8 ≡ 0) × (length (now heap) ≤ 131072) ⌝ }
+    ensures { λ _. ⌜ now (heap .exit) ≡ heapStamp 4 8 (now (heap .entry)) (fresh (base .0) len) ⌝ }
+{
+    let Position(b) = base;
+    put_segment(heap, b - 8, 0, len);
+    let mut d: u32 = 0;
+    while d < len {
+        put_segment(heap, b + (d as usize), d + 1, 0);
+        d += 8;
+    }
+}
+
+// Sets the written bit of one position.
+fn mark_one(heap: &mut [u8], at: usize)
+    requires { ⌜ (at < length (now heap)) × (length (now heap) % 8 ≡ 0) ⌝ }
+    ensures { λ _. ⌜ now (heap .exit) ≡ heapMark 4 8 (now (heap .entry)) at ⌝ }
+{
+    let bits = at / 8 * 8 + 4;
+    heap[bits] = number::with_bit(heap[bits], (at % 8) as u32);
+}
+
+// Sets the written bits of the n positions from p on.
+pub fn mark(heap: &mut [u8], p: Position, n: u32)
+    requires { ⌜ (p .0 + n ≤ length (now heap)) × (length (now heap) % 8 ≡ 0) × (length (now heap) ≤ 131072) ⌝ }
+    ensures { λ _. ⌜ now (heap .exit) ≡ markRange (heapOps 4 8 (length (now (heap .entry)))) (now (heap .entry)) (p .0) n ⌝ }
+{
+    let Position(first) = p;
+    let end = first + (n as usize);
+    let mut at = first;
+    while at < end {
+        mark_one(heap, at);
+        at += 1;
+    }
+}
+
+// Whether the written bit of one position is set.
+fn marked_one(heap: &[u8], at: usize) -> bool
+    requires { ⌜ (at < length (now heap)) × (length (now heap) % 8 ≡ 0) ⌝ }
+    ensures { λ r. ⌜ r ≡ heapMarked 4 8 (now (heap .entry)) at ⌝ }
+{
+    let bits = at / 8 * 8 + 4;
+    number::bit(heap[bits], (at % 8) as u32) == 1
+}
+
+// Whether the written bits of the n positions from p on are set.
+pub fn marked(heap: &[u8], p: Position, n: u32) -> bool
+    requires { ⌜ (p .0 + n ≤ length (now heap)) × (length (now heap) % 8 ≡ 0) × (length (now heap) ≤ 131072) ⌝ }
+    ensures { λ r. ⌜ r ≡ rangeMarked (heapOps 4 8 (length (now (heap .entry)))) (now (heap .entry)) (p .0) n ⌝ }
+{
+    let Position(first) = p;
+    let end = first + (n as usize);
+    let mut at = first;
+    while at < end {
+        if marked_one(heap, at) {
+            at += 1;
+        } else {
+            return false;
+        }
+    }
+    true
+}
+
+// Blocks, live bytes and written bytes of the list of which the shadow is the image, or that it is none. No block is open at the end:
+// each ends inside the area.
+pub fn audit(heap: &[u8]) -> Audit
+    requires { ⌜ (length (now heap) % 8 ≡ 0) × (length (now heap) ≤ 131072) ⌝ }
+    ensures { λ r. ⌜ heapTally r ≡ heapOps 4 8 (length (now (heap .entry))) .audit (now (heap .entry)) ⌝ }
+{
+    let segments = heap.len() / 8;
+    let mut w = Walk {
+        len: 0,
+        d: 0,
+        blocks: 0,
+        live: 0,
+        written: 0,
+    };
+    let mut s: usize = 0;
+    while s < segments {
+        match walk::turn(heap, s, w) {
+            Moved::On(v) => {
+                w = v;
+            }
+            Moved::NoImage => {
+                return Audit::NoImage;
+            }
+        }
+        s += 1;
+    }
+    Audit::Totals(w.blocks, w.live, w.written)
+}

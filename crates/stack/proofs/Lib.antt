@@ -1,0 +1,6 @@
+pub mod ReadLaws
+pub mod FillLaws
+pub mod MarkLaws
+pub mod CodeLaws
+pub mod StampLaws
+pub mod WalkLaws

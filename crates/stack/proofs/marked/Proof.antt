@@ -1,0 +1,55 @@
+use mathlib.Core.Path.{_≡_, _∙_}
+use mathlib.Core.List.{[]}
+use Prim.Native.Nat.{_+_, _-_}
+use native.Mathlib.Nat.{zero-add}
+use denote.Ref.{now}
+use lib.ListN.{length, take, drop}
+use Rattle.number.proofs.PartLaws.{part-length, part-at}
+use Rattle.stack.proofs.MarkLaws.{marked-same}
+use borrow.Author.Needs.{needs}
+use Rattle.stack.proofs.marked.Statement.{statement}
+use Rattle.stack.proofs.marked.Tie as tie
+use Rattle.stack.proofs.marked.Reads as reads
+use Rattle.stack.proofs.marked.Lts as lts
+use Rattle.stack.proofs.marking.part_marked.Reads as part-marked-reads
+
+-- src/lib.rt:86:13
+add-e : tie.Need-add-e
+add-e c = search needs
+
+-- src/lib.rt:87:26
+sub-part-marked : tie.Need-sub-part-marked
+sub-part-marked c = search needs
+
+-- src/lib.rt:87:26
+part-part-marked-start : tie.Need-part-part-marked-start
+part-part-marked-start c = search needs
+
+-- src/lib.rt:87:26
+part-part-marked-end : tie.Need-part-part-marked-end
+part-part-marked-end c = search needs
+
+-- src/lib.rt:87:5
+part-marked-requires : tie.Need-part-marked-requires
+part-marked-requires c κs = search needs
+
+-- src/lib.rt:81:1
+returns : tie.Need-returns
+returns c S =
+    let s = c .before .before .before in
+    let P = now (s .args .primary) in
+    let part = take ((s .args .p .0 + s .args .n) - s .args .p .0) (drop (s .args .p .0) P) in
+    let l : length part ≡ s .args .n = part-length P (s .args .p .0) (s .args .n) (s .pre) in
+    c .part-marked .ensures
+    ∙ rw l (marked-same (s .args .n) (length P) part P [] S 0 (s .args .p .0) (s .args .n) (λ i h. rw zero-add (part-at P (s .args .p .0) (s .args .n) i h)))
+
+pub marked-spec : {M : Type 1} → statement M
+marked-spec =
+    tie.close
+    (tie.spec
+    add-e
+    sub-part-marked
+    part-part-marked-start
+    part-part-marked-end
+    part-marked-requires
+    returns)

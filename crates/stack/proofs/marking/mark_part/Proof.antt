@@ -1,0 +1,77 @@
+use mathlib.Core.Path.{_≡_, refl, sym, ap, _∙_}
+use Prim.Native.Nat.{ℕ, _+_, _-_, _*_, _≤_, _<_}
+use native.Mathlib.Omega.{arith}
+use denote.Ref.{now}
+use lib.ListN.{length, length-set}
+use borrow.Author.Needs.{needs}
+use Rattle.number.specs.Parts.{at, over}
+use Rattle.number.proofs.PartLaws.{over-none}
+use Rattle.stack_layout.specs.Ops.{withWritten}
+use Rattle.stack.proofs.FillLaws.{fill-step, fill-read}
+use Rattle.stack.proofs.MarkLaws.{or-written}
+use Rattle.stack.proofs.marking.mark_part.Statement.{statement}
+use Rattle.stack.proofs.marking.mark_part.Tie as tie
+use Rattle.stack.proofs.marking.mark_part.Reads as reads
+use Rattle.stack.proofs.marking.mark_part.Lts as lts
+
+abbrev Inv-loop : tie.InvT-loop
+Inv-loop part₀ i₀ part i =
+    (i ≤ length part₀) × (length part ≡ length part₀) × (part ≡ over 0 i (λ q. withWritten (at part₀ q)) part₀)
+
+abbrev μ-loop : tie.MeasureT-loop
+μ-loop part₀ i₀ part i = length part₀ - i
+
+-- src/marking.rt:13:5
+loop-holds : tie.Need-loop-holds Inv-loop μ-loop
+loop-holds c = (search needs, refl, sym (over-none 0 _ _))
+
+-- src/marking.rt:14:19
+slice-read-part : tie.Need-slice-read-part Inv-loop μ-loop
+slice-read-part c = search needs
+
+-- src/marking.rt:14:9
+slice-write-part : tie.Need-slice-write-part Inv-loop μ-loop
+slice-write-part c = search needs
+
+-- src/marking.rt:15:9
+add-i : tie.Need-add-i Inv-loop μ-loop
+add-i c = search needs
+
+-- src/marking.rt:13:5
+loop-less : tie.Need-loop-less Inv-loop μ-loop
+loop-less c = search needs
+
+-- src/marking.rt:13:5
+loop-again : tie.Need-loop-again Inv-loop μ-loop
+loop-again c =
+    let part₀ = now (c .before .before .before .args .part) in
+    let l = c .before .before .loop in
+    let h : l .i < length part₀ = omega arith in
+    let f : ℕ → ℕ = λ q. withWritten (at part₀ q) in
+    (omega arith, simp length-set (l .inv .1), fill-step part₀ (l .part) (l .i) _ f h (l .inv .2) (or-written (at (l .part) (l .i)) ∙ ap withWritten (fill-read part₀ (l .part) (l .i) f h (l .inv .2))))
+
+-- src/marking.rt:9:1
+same-length : tie.Need-same-length Inv-loop μ-loop
+same-length c = search needs
+
+-- src/marking.rt:9:1
+returns : tie.Need-returns Inv-loop μ-loop
+returns c =
+    let l = c .before .loop in
+    let e : l .i ≡ length (now (c .before .before .args .part)) = omega arith in
+    rw e at (l .inv .2)
+
+pub mark-part-spec : {M : Type 1} → statement M
+mark-part-spec =
+    tie.close
+    (tie.spec
+    Inv-loop
+    μ-loop
+    loop-holds
+    slice-read-part
+    slice-write-part
+    add-i
+    loop-less
+    loop-again
+    same-length
+    returns)
