@@ -1,16 +1,11 @@
-// The heap layout at segments of 8 bytes and numbers of 4, on one shadow: reading, placing, written bits, audit. Positions.
-mod walk;
-
+// The heap layout at segments of 8 bytes and numbers of 4, on one shadow: reading, placing, written bits. Positions.
 use map::Position;
-use plain::Audit;
 use plain::Reading;
-use walk::Moved;
-use walk::Walk;
 ghost use mathlib.Core.Path.{_≡_};
 ghost use Prim.Native.Nat.{_+_, _-_, _%_, _≤_, _<_};
 ghost use lib.ListN.{length};
 ghost use Rattle.number.specs.Parts.{at, over};
-ghost use Rattle.plain.specs.Answers.{readingOf, heapTally};
+ghost use Rattle.plain.specs.Answers.{readingOf};
 ghost use Rattle.plain.specs.Block.{fresh};
 ghost use Rattle.plain.specs.Ops.{markRange, rangeMarked};
 ghost use Rattle.heap_layout.specs.Reading.{heapReading};
@@ -152,33 +147,4 @@ pub fn marked(heap: &[u8], p: Position, n: u32) -> bool
         }
     }
     true
-}
-
-// Blocks, live bytes and written bytes of the list of which the shadow is the image, or that it is none. No block is open at the end:
-// each ends inside the area.
-pub fn audit(heap: &[u8]) -> Audit
-    requires { ⌜ (length (now heap) % 8 ≡ 0) × (length (now heap) ≤ 131072) ⌝ }
-    ensures { λ r. ⌜ heapTally r ≡ heapOps 4 8 (length (now (heap .entry))) .audit (now (heap .entry)) ⌝ }
-{
-    let segments = heap.len() / 8;
-    let mut w = Walk {
-        len: 0,
-        d: 0,
-        blocks: 0,
-        live: 0,
-        written: 0,
-    };
-    let mut s: usize = 0;
-    while s < segments {
-        match walk::turn(heap, s, w) {
-            Moved::On(v) => {
-                w = v;
-            }
-            Moved::NoImage => {
-                return Audit::NoImage;
-            }
-        }
-        s += 1;
-    }
-    Audit::Totals(w.blocks, w.live, w.written)
 }

@@ -3,8 +3,9 @@ use mathlib.Core.Path.{_≡_, refl, ap}
 use mathlib.Core.List.{List, [], _∷_, _++_}
 use Prim.Native.Nat.{ℕ, zero, suc, _+_, _*_, _/_, _%_, _^_, _≤_, _<_, suc-le-suc}
 use native.Mathlib.Omega.{arith}
-use native.Mathlib.Nat.{add-zero, add-suc, suc-add, mul-assoc, pow-suc, mul-comm}
+use native.Mathlib.Nat.{add-zero, add-suc, suc-add, mul-assoc, pow-suc, mul-comm, div-one, div-div-eq-div-mul}
 use lib.ListN.{length, set, take, drop}
+use lib.Pow.{pow-add}
 use lib.Seq.{drop-cons}
 use Rattle.number.specs.Little.{le, bytesOf, Bytes, byteOf, word}
 use Rattle.number.specs.Parts.{at}
@@ -53,6 +54,14 @@ pub byteOf-zero : (i : ℕ) → byteOf 0 i ≡ 0
 unfolding byteOf
 byteOf-zero zero = refl
 byteOf-zero (suc i) = byteOf-zero i
+
+-- byte j of a number, by a shift
+pub byteOf-shift : (n j : ℕ) → n / 2 ^ (8 * j) % 256 ≡ byteOf n j
+unfolding byteOf
+byteOf-shift n zero = rw (div-one n)
+byteOf-shift n (suc j) =
+    let e : 8 * suc j ≡ 8 + 8 * j = omega arith in
+    rw (e, pow-add 2 8 (8 * j), ← div-div-eq-div-mul) (byteOf-shift (n / 256) j)
 
 -- the number at w places of a list
 pub le-word : (l : List ℕ) (w p : ℕ) → p + w ≤ length l → le (take w (drop p l)) ≡ word (at l) p w

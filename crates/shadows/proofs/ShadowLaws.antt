@@ -26,7 +26,7 @@ use Rattle.heap_layout.specs.Ops.{heapOps}
 use Rattle.heap_layout.proofs.HeapImages.{heap-images, heap-scanned}
 use Rattle.stack_layout.specs.Image.{stackImage}
 use Rattle.stack_layout.specs.Ops.{stackOps}
-use Rattle.stack_layout.proofs.LayoutLaws.{stack-images, stack-scanned}
+use Rattle.stack_layout.proofs.StackImages.{stack-images, stack-scanned}
 use Rattle.shadows.specs.Shadows.{Shadows, lengthsFit, shadowOps, image}
 
 -- each shadow is as long as its area, as facts

@@ -3,4 +3,3 @@ pub mod FillLaws
 pub mod MarkLaws
 pub mod CodeLaws
 pub mod StampLaws
-pub mod WalkLaws

@@ -1,19 +1,18 @@
 -- What a fresh block makes of its bytes, piece by piece. Assumes nothing.
-use mathlib.Core.Path.{_≡_, refl, sym, ap, _∙_}
+use mathlib.Core.Path.{_≡_, sym, _∙_}
 use mathlib.Core.Logic.{_⊎_, inl, inr}
-use mathlib.Core.Bool.{Bool, true, false, cond}
+use mathlib.Core.Bool.{true, false}
 use mathlib.Core.List.{List, [], _∷_}
-use Prim.Native.Nat.{ℕ, zero, suc, _+_, _-_, _*_, _/_, _%_, _≤_, _<_, min}
+use Prim.Native.Nat.{ℕ, _+_, _-_, _*_, _/_, _%_, _≤_, _<_, min}
 use native.Mathlib.Omega.{arith}
 use native.Mathlib.Nat.{add-sub-cancel-left, zero-add}
-use lib.ListN.{length, replicate, length-replicate, getD-replicate}
-use lib.Dec.{leb, ltb, eqb}
+use lib.ListN.{length-replicate, getD-replicate}
 use borrow.Author.Tests.{lt-ltb, le-ltb, le-leb, lt-leb}
 use Rattle.number.specs.Little.{byteOf}
 use Rattle.number.specs.Parts.{at, zeros, over}
 use Rattle.number.proofs.TestLaws.{and-true, in-true}
 use Rattle.number.proofs.PartLaws.{zeros-at, over-none, over-ext}
-use Rattle.plain.specs.Block.{Block, fresh}
+use Rattle.plain.specs.Block.{fresh}
 use Rattle.plain.specs.Layer.{layer}
 use Rattle.stack_layout.specs.Code.{shortCode, pieceOf, codeOf, pieceByte, primaryOf, secondaryOf}
 use Rattle.stack_layout.specs.Image.{primaryOwn, secondaryOwn, primaryByte, secondaryByte}

@@ -1,8 +1,6 @@
-// What each byte of a block has in the shadows.
+// The codes of short blocks.
 ghost use mathlib.Core.Path.{_≡_};
-ghost use Prim.Native.Nat.{_+_, _-_, _*_, _/_, _<_, _≤_};
-ghost use Rattle.number.specs.Little.{byteOf};
-ghost use Rattle.stack_layout.specs.Code.{pieceOf, codeOf, secondaryOf};
+ghost use Prim.Native.Nat.{_-_, _*_, _/_, _≤_};
 
 // How many codes the blocks shorter than a short one have.
 pub fn codes_below(len: u32) -> u32
@@ -10,55 +8,4 @@ pub fn codes_below(len: u32) -> u32
     ensures { λ r. ⌜ (r ≡ len * (len - 1) / 2) × (r ≤ 28) ⌝ }
 {
     len * (len - 1) / 2
-}
-
-// The offset of the piece that holds byte i of a long block.
-pub fn piece_of(len: u32, i: u32) -> u32
-    requires { ⌜ (9 ≤ len) × (i < len) ⌝ }
-    ensures { λ r. ⌜ (r ≡ pieceOf len i) × (r ≤ i) × (i < r + 15) ⌝ }
-{
-    let k = i / 8;
-    let last = len / 8 - 1;
-    if k < last {
-        return 8 * k;
-    }
-    8 * last
-}
-
-// The code of byte i of a block.
-pub fn code_at(len: u32, i: u32) -> u8
-    requires { ⌜ i < len ⌝ }
-    ensures { λ r. ⌜ (r ≡ codeOf len i) × (r < 63) ⌝ }
-{
-    if len <= 8 {
-        return (codes_below(len) + i + 1) as u8;
-    }
-    (48 + (i - piece_of(len, i))) as u8
-}
-
-// Byte j of a number.
-pub fn byte_of(v: u32, j: u32) -> u8
-    requires { ⌜ j < 4 ⌝ }
-    ensures { λ r. ⌜ r ≡ byteOf v j ⌝ }
-{
-    ((v >> (8 * j)) % 256) as u8
-}
-
-// The secondary byte at byte i of a block.
-pub fn secondary_at(len: u32, i: u32) -> u8
-    requires { ⌜ i < len ⌝ }
-    ensures { λ r. ⌜ r ≡ secondaryOf len i ⌝ }
-{
-    if len <= 8 {
-        return 0;
-    }
-    let o = piece_of(len, i);
-    let j = i - o;
-    if j < 4 {
-        return byte_of(len, j);
-    }
-    if j < 8 {
-        return byte_of(o, j - 4);
-    }
-    0
 }

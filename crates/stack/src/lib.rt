@@ -1,13 +1,13 @@
-// The stack layout's code: readings, records, marks and the audit, on the primary and the secondary shadow. Positions.
+// The stack layout's code: readings, records and marks, on the primary and the secondary shadow. Positions.
 ghost use mathlib.Core.Path.{_≡_};
-ghost use mathlib.Core.Bool.{Bool, true};
+ghost use mathlib.Core.Bool.{true};
 ghost use mathlib.Core.List.{List};
 ghost use Prim.Native.Nat.{ℕ, _+_, _<_, _≤_};
 ghost use lib.ListN.{length};
 ghost use Rattle.number.specs.Parts.{at};
 ghost use Rattle.plain.specs.Block.{fresh};
 ghost use Rattle.plain.specs.Ops.{markRange, rangeMarked};
-ghost use Rattle.plain.specs.Answers.{readingOf, stackTally};
+ghost use Rattle.plain.specs.Answers.{readingOf};
 ghost use Rattle.stack_layout.specs.Reading.{stackReading};
 ghost use Rattle.stack_layout.specs.Ops.{StackShadows, stackVacant, stackStamp, stackErase, stackOps};
 
@@ -16,12 +16,11 @@ mod marking;
 mod reading;
 mod stamping;
 mod table;
-mod walking;
 
+pub use coding::codes_below;
 use map::Position;
-use plain::Audit;
 use plain::Reading;
-use walking::Walk;
+pub use table::short_length;
 
 // The reading of a position: the code is taken by shift, the written bit by mask.
 pub fn read(primary: &[u8], secondary: &[u8], p: Position) -> Reading
@@ -89,32 +88,4 @@ pub fn marked(primary: &[u8], p: Position, n: u32) -> bool
     let q = p.0;
     let e = q + (n as usize);
     marking::part_marked(&primary[q..e])
-}
-
-// The totals of the blocks of which the shadows are the image, or no image.
-pub fn audit(primary: &[u8], secondary: &[u8]) -> Audit
-    requires { ⌜ (length (now primary) ≡ length (now secondary)) × (length (now primary) ≤ 65536) ⌝ }
-    ensures { λ r. ⌜ stackTally r ≡ stackOps (length (now (primary .entry))) .audit (now (primary .entry), now (secondary .entry)) ⌝ }
-{
-    let mut w = Walk {
-        len: 0,
-        i: 0,
-        blocks: 0,
-        live: 0,
-        written: 0,
-    };
-    let mut q = 0;
-    while q < primary.len() {
-        let k = walking::current(primary, secondary, q, w.len);
-        let x = primary[q];
-        if !walking::stands(x, secondary[q], k, w.i) {
-            return Audit::NoImage;
-        }
-        w = walking::after(w, k, x & 1);
-        q += 1;
-    }
-    if w.len == 0 {
-        return Audit::Totals(w.blocks, w.live, w.written);
-    }
-    Audit::NoImage
 }

@@ -1,13 +1,13 @@
 // The steps of a record: the codes of a run of bytes, and the first secondary bytes of a piece.
 ghost use mathlib.Core.Path.{_≡_};
-ghost use mathlib.Core.Bool.{Bool, true};
-ghost use Prim.Native.Nat.{ℕ, _+_, _-_, _*_, _≤_};
+ghost use mathlib.Core.Bool.{true};
+ghost use Prim.Native.Nat.{_+_, _-_, _*_, _≤_};
 ghost use lib.ListN.{length};
 ghost use Rattle.number.specs.Parts.{at, zeros, over};
 ghost use Rattle.stack_layout.specs.Code.{pieceByte, primaryOf, secondaryOf};
 use crate::coding::codes_below;
 
-// Codes that climb by one, none written, in a whole part: each byte is 4 above the one before.
+// Codes that climb by one, none written, in a whole part: each byte is 4 above the one before, so no division is needed.
 pub fn climb(part: &mut [u8], first: u8)
     requires { ⌜ first + 4 * length (now part) ≤ 255 ⌝ }
     ensures { λ _. ⌜ now (part .exit) ≡ over 0 (length (now (part .entry))) (λ i. first + 4 * i) (now (part .entry)) ⌝ }
@@ -21,6 +21,7 @@ pub fn climb(part: &mut [u8], first: u8)
     }
 }
 
+// The same in the n bytes from q on; every other byte stays.
 pub fn climb_at(primary: &mut [u8], q: usize, n: usize, first: u8)
     requires { ⌜ (q + n ≤ length (now primary)) × (first + 4 * n ≤ 255) ⌝ }
     ensures { λ _. ⌜ now (primary .exit) ≡ over q n (λ x. first + 4 * (x - q)) (now (primary .entry)) ⌝ }
@@ -38,6 +39,7 @@ pub fn put_piece(secondary: &mut [u8], q: usize, len: u32, o: u32)
     number::put_at(secondary, q + 4, o);
 }
 
+// The secondary bytes of a short block are zero, as its place is.
 pub fn stamp_short(primary: &mut [u8], base: usize, len: u32)
     requires { ⌜ (base + len ≤ length (now primary)) × (1 ≤ len) × (len ≤ 8) ⌝ }
     ensures { λ _. ⌜ now (primary .exit) ≡ over base len (λ q. primaryOf len (q - base) 0) (now (primary .entry)) ⌝ }

@@ -6,4 +6,4 @@ pub mod ImageLaws
 pub mod ChangeLaws
 pub mod RestLaws
 pub mod WalkLaws
-pub mod LayoutLaws
+pub mod StackImages

@@ -1,44 +1,35 @@
+-- `stack::mark` meets its contract: a lent part comes back marked. Assumes nothing.
 use mathlib.Core.Path.{ap}
 use Prim.Native.Nat.{ℕ}
 use denote.Ref.{now}
 use lib.ListN.{length}
+use borrow.Author.Needs.{needs}
 use Rattle.number.specs.Parts.{at}
 use Rattle.number.proofs.PartLaws.{part-at}
 use Rattle.stack_layout.specs.Ops.{withWritten}
 use Rattle.stack.proofs.FillLaws.{over-lent}
 use Rattle.stack.proofs.MarkLaws.{mark-range}
-use borrow.Author.Needs.{needs}
 use Rattle.stack.proofs.mark.Statement.{statement}
 use Rattle.stack.proofs.mark.Tie as tie
-use Rattle.stack.proofs.mark.Reads as reads
-use Rattle.stack.proofs.mark.Lts as lts
-use Rattle.stack.proofs.marking.mark_part.Reads as mark-part-reads
 
--- src/lib.rt:76:13
 add-e : tie.Need-add-e
 add-e c = search needs
 
--- src/lib.rt:77:24
 sub-mark-part : tie.Need-sub-mark-part
 sub-mark-part c = search needs
 
--- src/lib.rt:77:24
 part-mark-part-start : tie.Need-part-mark-part-start
 part-mark-part-start c = search needs
 
--- src/lib.rt:77:24
 part-mark-part-end : tie.Need-part-mark-part-end
 part-mark-part-end c = search needs
 
--- src/lib.rt:77:5
 mark-part-requires : tie.Need-mark-part-requires
 mark-part-requires c κs = search needs
 
--- src/lib.rt:71:1
 same-length : tie.Need-same-length
 same-length c = search needs
 
--- src/lib.rt:71:1
 returns : tie.Need-returns
 returns c S =
     let s = c .before .before .before .before .before in

@@ -1,39 +1,31 @@
+-- `stack::marked` meets its contract: the lent part's bits are those of the range. Assumes nothing.
 use mathlib.Core.Path.{_≡_, _∙_}
 use mathlib.Core.List.{[]}
 use Prim.Native.Nat.{_+_, _-_}
 use native.Mathlib.Nat.{zero-add}
 use denote.Ref.{now}
 use lib.ListN.{length, take, drop}
+use borrow.Author.Needs.{needs}
 use Rattle.number.proofs.PartLaws.{part-length, part-at}
 use Rattle.stack.proofs.MarkLaws.{marked-same}
-use borrow.Author.Needs.{needs}
 use Rattle.stack.proofs.marked.Statement.{statement}
 use Rattle.stack.proofs.marked.Tie as tie
-use Rattle.stack.proofs.marked.Reads as reads
-use Rattle.stack.proofs.marked.Lts as lts
-use Rattle.stack.proofs.marking.part_marked.Reads as part-marked-reads
 
--- src/lib.rt:86:13
 add-e : tie.Need-add-e
 add-e c = search needs
 
--- src/lib.rt:87:26
 sub-part-marked : tie.Need-sub-part-marked
 sub-part-marked c = search needs
 
--- src/lib.rt:87:26
 part-part-marked-start : tie.Need-part-part-marked-start
 part-part-marked-start c = search needs
 
--- src/lib.rt:87:26
 part-part-marked-end : tie.Need-part-part-marked-end
 part-part-marked-end c = search needs
 
--- src/lib.rt:87:5
 part-marked-requires : tie.Need-part-marked-requires
 part-marked-requires c κs = search needs
 
--- src/lib.rt:81:1
 returns : tie.Need-returns
 returns c S =
     let s = c .before .before .before in

@@ -1,20 +1,15 @@
-use Rattle.stack_layout.specs.Ops.{stackVacant}
+-- `stack::vacant` meets its contract. Assumes nothing.
 use borrow.Author.Needs.{needs}
+use Rattle.stack_layout.specs.Ops.{stackVacant}
 use Rattle.stack.proofs.vacant.Statement.{statement}
 use Rattle.stack.proofs.vacant.Tie as tie
-use Rattle.stack.proofs.vacant.Reads as reads
-use Rattle.stack.proofs.vacant.Lts as lts
-use Rattle.number.proofs.zero_at.Reads as zero-at-reads
 
--- src/lib.rt:42:5
 zero-at-requires : tie.Need-zero-at-requires
 zero-at-requires c κs = search needs
 
--- src/lib.rt:42:38
 zero-at-requires-2 : tie.Need-zero-at-requires-2
 zero-at-requires-2 c κs = search needs
 
--- src/lib.rt:36:1
 returns : tie.Need-returns
 unfolding stackVacant
 returns c = rw (c .before .zero-at .ensures, c .zero-at2 .ensures)

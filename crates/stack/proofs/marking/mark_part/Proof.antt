@@ -1,5 +1,6 @@
+-- `marking::mark_part` meets its contract: the bytes passed are marked, the others as they were. Assumes nothing.
 use mathlib.Core.Path.{_≡_, refl, sym, ap, _∙_}
-use Prim.Native.Nat.{ℕ, _+_, _-_, _*_, _≤_, _<_}
+use Prim.Native.Nat.{ℕ, _-_, _≤_, _<_}
 use native.Mathlib.Omega.{arith}
 use denote.Ref.{now}
 use lib.ListN.{length, length-set}
@@ -11,8 +12,6 @@ use Rattle.stack.proofs.FillLaws.{fill-step, fill-read}
 use Rattle.stack.proofs.MarkLaws.{or-written}
 use Rattle.stack.proofs.marking.mark_part.Statement.{statement}
 use Rattle.stack.proofs.marking.mark_part.Tie as tie
-use Rattle.stack.proofs.marking.mark_part.Reads as reads
-use Rattle.stack.proofs.marking.mark_part.Lts as lts
 
 abbrev Inv-loop : tie.InvT-loop
 Inv-loop part₀ i₀ part i =
@@ -21,27 +20,21 @@ Inv-loop part₀ i₀ part i =
 abbrev μ-loop : tie.MeasureT-loop
 μ-loop part₀ i₀ part i = length part₀ - i
 
--- src/marking.rt:13:5
 loop-holds : tie.Need-loop-holds Inv-loop μ-loop
 loop-holds c = (search needs, refl, sym (over-none 0 _ _))
 
--- src/marking.rt:14:19
 slice-read-part : tie.Need-slice-read-part Inv-loop μ-loop
 slice-read-part c = search needs
 
--- src/marking.rt:14:9
 slice-write-part : tie.Need-slice-write-part Inv-loop μ-loop
 slice-write-part c = search needs
 
--- src/marking.rt:15:9
 add-i : tie.Need-add-i Inv-loop μ-loop
 add-i c = search needs
 
--- src/marking.rt:13:5
 loop-less : tie.Need-loop-less Inv-loop μ-loop
 loop-less c = search needs
 
--- src/marking.rt:13:5
 loop-again : tie.Need-loop-again Inv-loop μ-loop
 loop-again c =
     let part₀ = now (c .before .before .before .args .part) in
@@ -50,11 +43,9 @@ loop-again c =
     let f : ℕ → ℕ = λ q. withWritten (at part₀ q) in
     (omega arith, simp length-set (l .inv .1), fill-step part₀ (l .part) (l .i) _ f h (l .inv .2) (or-written (at (l .part) (l .i)) ∙ ap withWritten (fill-read part₀ (l .part) (l .i) f h (l .inv .2))))
 
--- src/marking.rt:9:1
 same-length : tie.Need-same-length Inv-loop μ-loop
 same-length c = search needs
 
--- src/marking.rt:9:1
 returns : tie.Need-returns Inv-loop μ-loop
 returns c =
     let l = c .before .loop in

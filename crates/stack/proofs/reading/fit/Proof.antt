@@ -1,30 +1,24 @@
+-- `reading::fit` meets its contract. Assumes nothing.
 use borrow.Author.Tests.{lt-ltb, le-ltb}
-use Rattle.stack_layout.specs.Reading.{fitted}
 use borrow.Author.Needs.{needs}
+use Rattle.stack_layout.specs.Reading.{fitted}
 use Rattle.stack.proofs.reading.fit.Statement.{statement}
 use Rattle.stack.proofs.reading.fit.Tie as tie
-use Rattle.stack.proofs.reading.fit.Reads as reads
-use Rattle.stack.proofs.reading.fit.Lts as lts
 
--- src/reading.rt:28:9
 returns : tie.Need-returns
 unfolding fitted
 returns c = rw (lt-ltb _ _ (c .if1 .taken))
 
--- src/reading.rt:30:8
 add-if2 : tie.Need-add-if2
 add-if2 c = search needs
 
--- src/reading.rt:30:24
 add-if2-2 : tie.Need-add-if2-2
 add-if2-2 c = search needs
 
--- src/reading.rt:31:9
 returns-2 : tie.Need-returns-2
 unfolding fitted
 returns-2 c = rw (le-ltb _ _ (c .before .if1 .left), lt-ltb _ _ (c .if2 .taken))
 
--- src/reading.rt:22:1
 returns-3 : tie.Need-returns-3
 unfolding fitted
 returns-3 c = rw (le-ltb _ _ (c .before .if1 .left), le-ltb _ _ (c .if2 .left))

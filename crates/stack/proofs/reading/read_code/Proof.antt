@@ -1,57 +1,42 @@
+-- `reading::read_code` meets its contract. Assumes nothing.
 use borrow.Author.Tests.{eq-eqb, ne-eqb, le-leb, lt-leb, lt-ltb, le-ltb}
-use Rattle.stack_layout.specs.Reading.{codeReading}
 use borrow.Author.Needs.{needs}
+use Rattle.stack_layout.specs.Reading.{codeReading}
 use Rattle.stack.proofs.reading.read_code.Statement.{statement}
 use Rattle.stack.proofs.reading.read_code.Tie as tie
-use Rattle.stack.proofs.reading.read_code.Reads as reads
-use Rattle.stack.proofs.reading.read_code.Lts as lts
-use Rattle.stack.proofs.reading.fit.Reads as fit-reads
-use Rattle.stack.proofs.reading.read_long.Reads as read-long-reads
-use Rattle.stack.proofs.table.short_length.Reads as short-length-reads
-use Rattle.stack.proofs.table.short_offset.Reads as short-offset-reads
 
--- src/reading.rt:73:13
 returns : tie.Need-returns
 unfolding codeReading
 returns c = rw (eq-eqb _ _ (c .before .if1 .taken), eq-eqb _ _ (c .if2 .taken))
 
--- src/reading.rt:75:9
 returns-2 : tie.Need-returns-2
 unfolding codeReading
 returns-2 c = rw (eq-eqb _ _ (c .before .if1 .taken), ne-eqb _ _ (c .if2 .left))
 
--- src/reading.rt:78:40
 short-length-requires : tie.Need-short-length-requires
 short-length-requires c κs = search needs
 
--- src/reading.rt:78:60
 short-offset-requires : tie.Need-short-offset-requires
 short-offset-requires c κs = search needs
 
--- src/reading.rt:78:9
 fit-requires : tie.Need-fit-requires
 fit-requires c κs = search needs
 
--- src/reading.rt:78:9
 returns-3 : tie.Need-returns-3
 unfolding codeReading
 returns-3 c = rw (ne-eqb _ _ (c .before .before .before .before .if1 .left), le-leb _ _ (c .before .before .before .if3 .taken), ← (c .before .before .short-length .ensures), ← (c .before .short-offset .ensures)) (c .fit .ensures)
 
--- src/reading.rt:81:9
 returns-4 : tie.Need-returns-4
 unfolding codeReading
 returns-4 c = rw (ne-eqb _ _ (c .before .before .if1 .left), lt-leb _ _ (c .before .if3 .left), lt-ltb _ _ (c .if4 .taken))
 
--- src/reading.rt:84:9
 returns-5 : tie.Need-returns-5
 unfolding codeReading
 returns-5 c = rw (ne-eqb _ _ (c .before .before .before .if1 .left), lt-leb _ _ (c .before .before .if3 .left), le-ltb _ _ (c .before .if4 .left), lt-ltb _ _ (c .if5 .taken))
 
--- src/reading.rt:86:5
 read-long-requires : tie.Need-read-long-requires
 read-long-requires c κs = search needs
 
--- src/reading.rt:67:1
 returns-6 : tie.Need-returns-6
 unfolding codeReading
 returns-6 c = rw (ne-eqb _ _ (c .before .before .before .before .if1 .left), lt-leb _ _ (c .before .before .before .if3 .left), le-ltb _ _ (c .before .before .if4 .left), le-ltb _ _ (c .before .if5 .left)) (c .read-long .ensures)

@@ -1,74 +1,56 @@
+-- `reading::read_long` meets its contract. Assumes nothing.
 use mathlib.Core.Path.{sym, _∙_}
 use native.Mathlib.Omega.{arith}
-use Rattle.stack.proofs.ReadLaws.{piece-within}
 use borrow.Author.Tests.{lt-ltb, le-ltb}
-use Rattle.stack_layout.specs.Reading.{longReading}
 use borrow.Author.Needs.{needs}
+use Rattle.stack_layout.specs.Reading.{longReading}
+use Rattle.stack.proofs.ReadLaws.{piece-within}
 use Rattle.stack.proofs.reading.read_long.Statement.{statement}
 use Rattle.stack.proofs.reading.read_long.Tie as tie
-use Rattle.stack.proofs.reading.read_long.Reads as reads
-use Rattle.stack.proofs.reading.read_long.Lts as lts
-use Rattle.number.proofs.number_at.Reads as number-at-reads
-use Rattle.stack.proofs.reading.bad_piece.Reads as bad-piece-reads
-use Rattle.stack.proofs.reading.fit.Reads as fit-reads
 
--- src/reading.rt:52:9
 returns : tie.Need-returns
 unfolding longReading
 returns c = rw (lt-ltb _ _ (c .if1 .taken))
 
--- src/reading.rt:54:8
 add-if2 : tie.Need-add-if2
 add-if2 c = search needs
 
--- src/reading.rt:54:22
 add-if2-2 : tie.Need-add-if2-2
 add-if2-2 c = search needs
 
--- src/reading.rt:55:9
 returns-2 : tie.Need-returns-2
 unfolding longReading
 returns-2 c = rw (le-ltb _ _ (c .before .if1 .left), lt-ltb _ _ (c .if2 .taken))
 
--- src/reading.rt:58:9
 number-at-requires : tie.Need-number-at-requires
 number-at-requires c κs = search needs
 
--- src/reading.rt:59:42
 add-number-at : tie.Need-add-number-at
 add-number-at c = search needs
 
--- src/reading.rt:59:9
 number-at-requires-2 : tie.Need-number-at-requires-2
 number-at-requires-2 c κs = search needs
 
--- src/reading.rt:60:18
 cast-bad-piece : tie.Need-cast-bad-piece
 cast-bad-piece c = search needs
 
--- src/reading.rt:60:30
 cast-bad-piece-2 : tie.Need-cast-bad-piece-2
 cast-bad-piece-2 c = search needs
 
--- src/reading.rt:60:8
 bad-piece-requires : tie.Need-bad-piece-requires
 bad-piece-requires c κs = search needs
 
--- src/reading.rt:61:9
 returns-3 : tie.Need-returns-3
 unfolding longReading
 returns-3 c = rw (le-ltb _ _ (c .before .before .before .before .before .if1 .left), le-ltb _ _ (c .before .before .before .before .if2 .left), ← (c .before .before .before .number-at .ensures), ← (c .before .before .number-at2 .ensures), ← (c .before .bad-piece .ensures), c .if3 .taken)
 
--- src/reading.rt:63:23
 add-fit : tie.Need-add-fit
 add-fit c =
     omega (arith, piece-within (c .before .before .before .number-at .result) (c .before .before .number-at2 .result) (c .before .before .before .before .before .before .before .args .j) (sym (c .before .bad-piece .ensures) ∙ c .if3 .left))
 
--- src/reading.rt:63:5
 fit-requires : tie.Need-fit-requires
 fit-requires c κs = search needs
 
--- src/reading.rt:45:1
 returns-4 : tie.Need-returns-4
 unfolding longReading
 returns-4 c = rw (le-ltb _ _ (c .before .before .before .before .before .before .if1 .left), le-ltb _ _ (c .before .before .before .before .before .if2 .left), ← (c .before .before .before .before .number-at .ensures), ← (c .before .before .before .number-at2 .ensures), ← (c .before .before .bad-piece .ensures), c .before .if3 .left) (c .fit .ensures)

@@ -1,10 +1,8 @@
+-- `reading::spoiled` meets its contract. Assumes nothing.
 use Rattle.number.proofs.BitLaws.{mask-two}
 use Rattle.stack.proofs.reading.spoiled.Statement.{statement}
 use Rattle.stack.proofs.reading.spoiled.Tie as tie
-use Rattle.stack.proofs.reading.spoiled.Reads as reads
-use Rattle.stack.proofs.reading.spoiled.Lts as lts
 
--- src/reading.rt:15:1
 returns : tie.Need-returns
 returns c = mask-two (c .args .byte)
 

@@ -1,3 +1,4 @@
+-- `stamping::climb` meets its contract: the bytes passed climb by 4, the others are as they were. Assumes nothing.
 use mathlib.Core.Path.{_≡_, refl, sym}
 use Prim.Native.Nat.{_+_, _-_, _*_, _≤_, _<_}
 use native.Mathlib.Omega.{arith}
@@ -9,8 +10,6 @@ use Rattle.number.proofs.PartLaws.{over-none}
 use Rattle.stack.proofs.FillLaws.{fill-step}
 use Rattle.stack.proofs.stamping.climb.Statement.{statement}
 use Rattle.stack.proofs.stamping.climb.Tie as tie
-use Rattle.stack.proofs.stamping.climb.Reads as reads
-use Rattle.stack.proofs.stamping.climb.Lts as lts
 
 abbrev Inv-loop : tie.InvT-loop
 Inv-loop part₀ first byte₀ i₀ part byte i =
@@ -19,27 +18,21 @@ Inv-loop part₀ first byte₀ i₀ part byte i =
 abbrev μ-loop : tie.MeasureT-loop
 μ-loop part₀ first byte₀ i₀ part byte i = length part₀ - i
 
--- src/stamping.rt:16:5
 loop-holds : tie.Need-loop-holds Inv-loop μ-loop
 loop-holds c = (search needs, omega arith, refl, sym (over-none 0 _ _))
 
--- src/stamping.rt:17:9
 slice-write-part : tie.Need-slice-write-part Inv-loop μ-loop
 slice-write-part c = search needs
 
--- src/stamping.rt:18:9
 add-byte : tie.Need-add-byte Inv-loop μ-loop
 add-byte c = search needs
 
--- src/stamping.rt:19:9
 add-i : tie.Need-add-i Inv-loop μ-loop
 add-i c = search needs
 
--- src/stamping.rt:16:5
 loop-less : tie.Need-loop-less Inv-loop μ-loop
 loop-less c = search needs
 
--- src/stamping.rt:16:5
 loop-again : tie.Need-loop-again Inv-loop μ-loop
 loop-again c =
     let part₀ = now (c .before .before .args .part) in
@@ -47,11 +40,9 @@ loop-again c =
     let h : l .i < length part₀ = omega arith in
     (omega arith, omega arith, simp length-set (l .inv .2), fill-step part₀ (l .part) (l .i) (l .byte) _ h (l .inv .3) (l .inv .1))
 
--- src/stamping.rt:10:1
 same-length : tie.Need-same-length Inv-loop μ-loop
 same-length c = search needs
 
--- src/stamping.rt:10:1
 returns : tie.Need-returns Inv-loop μ-loop
 returns c =
     let l = c .before .loop in

@@ -1,38 +1,29 @@
+-- `stamping::climb_at` meets its contract. Assumes nothing.
 use native.Mathlib.Nat.{add-sub-cancel-left}
 use denote.Ref.{now}
-use Rattle.stack.proofs.FillLaws.{over-lent}
 use borrow.Author.Needs.{needs}
+use Rattle.stack.proofs.FillLaws.{over-lent}
 use Rattle.stack.proofs.stamping.climb_at.Statement.{statement}
 use Rattle.stack.proofs.stamping.climb_at.Tie as tie
-use Rattle.stack.proofs.stamping.climb_at.Reads as reads
-use Rattle.stack.proofs.stamping.climb_at.Lts as lts
-use Rattle.stack.proofs.stamping.climb.Reads as climb-reads
 
--- src/stamping.rt:27:13
 add-e : tie.Need-add-e
 add-e c = search needs
 
--- src/stamping.rt:28:11
 sub-climb : tie.Need-sub-climb
 sub-climb c = search needs
 
--- src/stamping.rt:28:11
 part-climb-start : tie.Need-part-climb-start
 part-climb-start c = search needs
 
--- src/stamping.rt:28:11
 part-climb-end : tie.Need-part-climb-end
 part-climb-end c = search needs
 
--- src/stamping.rt:28:5
 climb-requires : tie.Need-climb-requires
 climb-requires c κs = search needs
 
--- src/stamping.rt:23:1
 same-length : tie.Need-same-length
 same-length c = search needs
 
--- src/stamping.rt:23:1
 returns : tie.Need-returns
 returns c =
     let s = c .before .before .before .before .before in

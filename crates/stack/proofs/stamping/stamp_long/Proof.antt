@@ -1,3 +1,4 @@
+-- `stamping::stamp_long` meets its contract: the pieces before offset o are written, the others as they were. Assumes nothing.
 use mathlib.Core.Path.{_≡_, refl, sym, _∙_}
 use mathlib.Core.Logic.{inl, inr}
 use Prim.Native.Nat.{_+_, _-_, _%_, _≤_, _<_}
@@ -11,10 +12,6 @@ use Rattle.stack_layout.specs.Code.{primaryOf, secondaryOf}
 use Rattle.stack.proofs.StampLaws.{next-primary, next-secondary}
 use Rattle.stack.proofs.stamping.stamp_long.Statement.{statement}
 use Rattle.stack.proofs.stamping.stamp_long.Tie as tie
-use Rattle.stack.proofs.stamping.stamp_long.Reads as reads
-use Rattle.stack.proofs.stamping.stamp_long.Lts as lts
-use Rattle.stack.proofs.stamping.climb_at.Reads as climb-at-reads
-use Rattle.stack.proofs.stamping.put_piece.Reads as put-piece-reads
 
 abbrev Inv-loop : tie.InvT-loop
 Inv-loop primary₀ secondary₀ base len o₀ primary secondary o =
@@ -24,39 +21,30 @@ Inv-loop primary₀ secondary₀ base len o₀ primary secondary o =
 abbrev μ-loop : tie.MeasureT-loop
 μ-loop primary₀ secondary₀ base len o₀ primary secondary o = len - o
 
--- src/stamping.rt:56:5
 loop-holds : tie.Need-loop-holds Inv-loop μ-loop
 loop-holds c = (refl, omega arith, refl, refl, sym (over-none _ _ _), sym (over-none _ _ _))
 
--- src/stamping.rt:56:11
 add-loop : tie.Need-add-loop Inv-loop μ-loop
 add-loop c = search needs
 
--- src/stamping.rt:57:25
 cast-q : tie.Need-cast-q Inv-loop μ-loop
 cast-q c = search needs
 
--- src/stamping.rt:57:17
 add-q : tie.Need-add-q Inv-loop μ-loop
 add-q c = search needs
 
--- src/stamping.rt:58:9
 climb-at-requires : tie.Need-climb-at-requires Inv-loop μ-loop
 climb-at-requires c κs = search needs
 
--- src/stamping.rt:59:9
 put-piece-requires : tie.Need-put-piece-requires Inv-loop μ-loop
 put-piece-requires c κs = search needs
 
--- src/stamping.rt:60:9
 add-o : tie.Need-add-o Inv-loop μ-loop
 add-o c = search needs
 
--- src/stamping.rt:56:5
 loop-less : tie.Need-loop-less Inv-loop μ-loop
 loop-less c = search needs
 
--- src/stamping.rt:56:5
 loop-again : tie.Need-loop-again Inv-loop μ-loop
 loop-again c =
     let s = c .before .before .before .before .before .before .before .before .before .before .before .before in
@@ -73,39 +61,30 @@ loop-again c =
       next-secondary b L (l .o) 8 (s .pre .3) (l .inv .0) (l .inv .1) (inl refl) (l .inv .1) (omega arith) (now (s .args .secondary)) _ _ (s .pre .4) (l .inv .5) (put .ensures),
     )
 
--- src/stamping.rt:62:21
 cast-q-2 : tie.Need-cast-q-2 Inv-loop μ-loop
 cast-q-2 c = search needs
 
--- src/stamping.rt:62:13
 add-q-2 : tie.Need-add-q-2 Inv-loop μ-loop
 add-q-2 c = search needs
 
--- src/stamping.rt:63:27
 sub-climb-at : tie.Need-sub-climb-at Inv-loop μ-loop
 sub-climb-at c = search needs
 
--- src/stamping.rt:63:26
 cast-climb-at : tie.Need-cast-climb-at Inv-loop μ-loop
 cast-climb-at c = search needs
 
--- src/stamping.rt:63:5
 climb-at-requires-2 : tie.Need-climb-at-requires-2 Inv-loop μ-loop
 climb-at-requires-2 c κs = search needs
 
--- src/stamping.rt:64:5
 put-piece-requires-2 : tie.Need-put-piece-requires-2 Inv-loop μ-loop
 put-piece-requires-2 c κs = search needs
 
--- src/stamping.rt:49:1
 same-length : tie.Need-same-length Inv-loop μ-loop
 same-length c = search needs
 
--- src/stamping.rt:49:1
 same-length-2 : tie.Need-same-length-2 Inv-loop μ-loop
 same-length-2 c = search needs
 
--- src/stamping.rt:49:1
 returns : tie.Need-returns Inv-loop μ-loop
 returns c =
     let s = c .before .before .before .before .before .before .before .before .before .before .before .before in

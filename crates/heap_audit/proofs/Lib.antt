@@ -1,0 +1,3 @@
+pub mod MatchLaws
+pub mod WalkLaws
+pub mod TurnLaws

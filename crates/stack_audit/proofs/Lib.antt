@@ -1,0 +1,3 @@
+pub mod TallyLaws
+pub mod WalkLaws
+pub mod LoopLaws

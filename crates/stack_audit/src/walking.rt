@@ -1,0 +1,104 @@
+// The audit's walk, byte by byte.
+ghost use mathlib.Core.Path.{_≡_};
+ghost use mathlib.Core.Bool.{cond};
+ghost use Prim.Native.Nat.{_+_, _<_, _≤_, max};
+ghost use lib.ListN.{length};
+ghost use lib.Dec.{eqb};
+ghost use Rattle.number.specs.Parts.{at};
+ghost use Rattle.stack_audit.specs.Turn as turn;
+use crate::coding::code_at;
+use crate::coding::secondary_at;
+use stack::short_length;
+
+// The block that goes on, its length 0 where none does, and the next byte's offset in it; the totals so far.
+pub struct Walk {
+    pub len: u32,
+    pub i: u32,
+    pub blocks: u32,
+    pub live: u32,
+    pub written: u32,
+}
+
+// The length that the first byte of a block tells, where there is room for it.
+pub fn told(primary: &[u8], secondary: &[u8], q: usize) -> u32
+    requires { ⌜ (q < length (now primary)) × (length (now primary) ≡ length (now secondary)) × (length (now primary) ≤ 65536) ⌝ }
+    ensures { λ r. ⌜ r ≡ turn.told (length (now (primary .entry))) (at (now (primary .entry))) (at (now (secondary .entry))) q ⌝ }
+{
+    let code = primary[q] >> 2;
+    if code == 0 {
+        return 0;
+    }
+    if code <= 36 {
+        return short_length(code);
+    }
+    if q + 9 <= secondary.len() {
+        return number::number_at(secondary, q);
+    }
+    0
+}
+
+// The length of the block that goes on at q or would begin there, or 0.
+pub fn current(primary: &[u8], secondary: &[u8], q: usize, len: u32) -> u32
+    requires { ⌜ (q < length (now primary)) × (length (now primary) ≡ length (now secondary)) × (length (now primary) ≤ 65536) ⌝ }
+    ensures { λ r. ⌜ r ≡ turn.current (length (now (primary .entry))) (at (now (primary .entry))) (at (now (secondary .entry))) q len ⌝ }
+{
+    if len != 0 {
+        return len;
+    }
+    let l = told(primary, secondary, q);
+    if q + (l as usize) <= primary.len() {
+        return l;
+    }
+    0
+}
+
+// Whether the bytes x and y are those of byte i of a block of length k, or zero where k is 0.
+pub fn stands(x: u8, y: u8, k: u32, i: u32) -> bool
+    requires { ⌜ i < max k 1 ⌝ }
+    ensures { λ r. ⌜ r ≡ turn.stands x y k i ⌝ }
+{
+    if k == 0 {
+        return (x == 0) & (y == 0);
+    }
+    (x == ((code_at(k, i) << 2) | (x & 1))) & (y == secondary_at(k, i))
+}
+
+// A block counts where none went on.
+pub fn begun(len: u32) -> u32
+    ensures { λ r. ⌜ (r ≡ cond (eqb len 0) 1 0) × (r ≤ 1) ⌝ }
+{
+    if len == 0 {
+        return 1;
+    }
+    0
+}
+
+// The walk past a byte of a block of length k, or of none where k is 0.
+pub fn after(w: Walk, k: u32, written: u8) -> Walk
+    requires { ⌜ (w .i < max k 1) × (w .blocks < 65536) × (w .live < 65536) × (w .written < 65536) ⌝ }
+    ensures { λ r. ⌜ r ≡ turn.after w k written ⌝ }
+{
+    if k == 0 {
+        return w;
+    }
+    let i = w.i + 1;
+    let blocks = w.blocks + begun(w.len);
+    let live = w.live + 1;
+    let marks = w.written + number::wide(written);
+    if k <= i {
+        return Walk {
+            len: 0,
+            i: 0,
+            blocks: blocks,
+            live: live,
+            written: marks,
+        };
+    }
+    Walk {
+        len: k,
+        i: i,
+        blocks: blocks,
+        live: live,
+        written: marks,
+    }
+}
