@@ -9,3 +9,8 @@ pub mod AreaLaws
 pub mod ReadBackLaws
 pub mod ImageLaws
 pub mod LayerLaws
+pub mod SameLaws
+pub mod RunLaws
+pub mod ClimbLaws
+pub mod MarkedLaws
+pub mod TotalLaws

@@ -11,3 +11,7 @@ pub mod ReadBack
 pub mod Layer
 pub mod Found
 pub mod Answers
+pub mod Call
+pub mod PlainList
+pub mod ShadowCalls
+pub mod Run

@@ -1,2 +1,3 @@
 pub mod ShadowLaws
 pub mod LookLaws
+pub mod TotalLaws

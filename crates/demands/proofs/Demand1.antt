@@ -1,0 +1,109 @@
+-- Demand 1, proved. Assumes nothing.
+use mathlib.Core.Path.{_≡_, refl, sym, ap, _∙_}
+use mathlib.Core.Logic.{_≢_}
+use mathlib.Core.Bool.{true}
+use mathlib.Core.List.{List, [], _∷_, _++_}
+use mathlib.Core.Option.{Option, none, some}
+use Prim.Native.Nat.{ℕ, zero, suc}
+use native.Mathlib.Omega.{arith}
+use Rattle.number.specs.Parts.{Each}
+use Rattle.number.proofs.TestLaws.{Test, is-true, is-false, test}
+use Rattle.map.specs.declared.Map.{Map}
+use Rattle.plain.specs.Areas.{mapRules}
+use Rattle.plain.specs.Reading.{Reading, nothing, block, damaged, Tally, tally}
+use Rattle.plain.specs.Rules.{Rules}
+use Rattle.plain.specs.Ops.{Ops}
+use Rattle.plain.specs.Call.{Call, clear, record-block, free, written, ask, valid, initialised, next, audit, Answer, number, refusal, Refusal, firstOf, unless}
+use Rattle.plain.specs.ShadowCalls.{askAnswer, nextAnswer, auditAnswer, reading, search, shadowsAfter, shadowAnswer}
+use Rattle.shadows.specs.Shadows.{Shadows, shadowOps}
+use Rattle.monitor_base.specs.Calls.{refusals, call}
+use Rattle.demands.specs.Demand1.{None, RefusedAltersNothing, FirstThatHolds, AcceptedExactly}
+
+-- what a call answers where it is not refused has number 0
+accepted-0 : {S : Type 0} (R : Rules) (O : Ops S) (c : Call) (s : S) → number (shadowAnswer R O c s) ≡ 0
+accepted-0 R O clear s = refl
+accepted-0 R O (record-block b l) s = refl
+accepted-0 R O (free x) s = refl
+accepted-0 R O (written a n) s = refl
+accepted-0 R O (ask a) s = go (reading R O s a)
+  where
+    go : (r : Reading) → number (askAnswer r) ≡ 0
+    go nothing = refl
+    go (block b l o m) = refl
+    go damaged = refl
+accepted-0 R O (valid a n from) s = refl
+accepted-0 R O (initialised a n) s = refl
+accepted-0 R O (next a) s = go (search R O s a)
+  where
+    go : (r : Reading) → number (nextAnswer r) ≡ 0
+    go nothing = refl
+    go (block b l o m) = refl
+    go damaged = refl
+accepted-0 R O audit s = go (O .audit s)
+  where
+    go : (t : Option Tally) → number (auditAnswer t) ≡ 0
+    go none = refl
+    go (some (tally h k l w)) = refl
+
+module _ (m : Map) (c : Call) (s : Shadows) where
+  answers : Answer
+  answers = shadowAnswer (mapRules m) (shadowOps m) c s
+
+  abbrev does : ℕ → Shadows × Answer
+  does k = unless k s (shadowsAfter (mapRules m) (shadowOps m) c s, shadowAnswer (mapRules m) (shadowOps m) c s)
+
+  pub number-first : number ((call m c s) .1) ≡ firstOf (refusals m c s)
+  unfolding call
+  number-first = go (firstOf (refusals m c s))
+    where
+      go : (k : ℕ) → number ((does k) .1) ≡ k
+      go zero = accepted-0 (mapRules m) (shadowOps m) c s
+      go (suc k) = refl
+
+first-none : (rs : List Refusal) → None rs → firstOf rs ≡ 0
+first-none [] h = refl
+first-none (r ∷ rs) h = rw (h .0) (first-none rs (h .1))
+
+first-split : (before after : List Refusal) (k : ℕ) → None before → firstOf (before ++ ((k, true) ∷ after)) ≡ k
+first-split [] after k h = refl
+first-split (r ∷ rs) after k h = rw (h .0) (first-split rs after k (h .1))
+
+pub refused-alters-nothing : RefusedAltersNothing
+unfolding call
+refused-alters-nothing m c s h = go (firstOf (refusals m c s)) h
+  where
+    go : (k : ℕ) → number ((does m c s k) .1) ≢ 0 → does m c s k ≡ (s, refusal (number ((does m c s k) .1)))
+    go zero h = absurd (h (accepted-0 (mapRules m) (shadowOps m) c s))
+    go (suc k) h = refl
+
+pub first-that-holds : FirstThatHolds
+first-that-holds m c s before after k e h = number-first m c s ∙ ap firstOf e ∙ first-split before after k h
+
+-- each number that is tried is above 0, so that 0 says that none holds
+abbrev Named : List Refusal → Type 0
+Named rs = Each (λ (r : Refusal). r .0 ≢ 0) rs
+
+none-first : (rs : List Refusal) → Named rs → firstOf rs ≡ 0 → None rs
+none-first [] h e = tt
+none-first (r ∷ rs) h e = go (test (r .1)) (none-first rs (h .1))
+  where
+    go : Test (r .1) → (firstOf rs ≡ 0 → None rs) → None (r ∷ rs)
+    go (is-true t) ih = absurd (h .0 (rw t at e))
+    go (is-false t) ih = (t, ih (rw t at e))
+
+named : (m : Map) (c : Call) (s : Shadows) → Named (refusals m c s)
+named m clear s = (omega arith, (omega arith, tt))
+named m (record-block b l) s = (omega arith, (omega arith, (omega arith, (omega arith, (omega arith, (omega arith, tt))))))
+named m (free x) s = (omega arith, (omega arith, (omega arith, (omega arith, (omega arith, tt)))))
+named m (written a n) s = (omega arith, (omega arith, (omega arith, (omega arith, (omega arith, (omega arith, tt))))))
+named m (ask a) s = (omega arith, (omega arith, (omega arith, (omega arith, (omega arith, tt)))))
+named m (valid a n from) s = (omega arith, (omega arith, (omega arith, (omega arith, tt))))
+named m (initialised a n) s = (omega arith, (omega arith, (omega arith, (omega arith, tt))))
+named m (next a) s = (omega arith, (omega arith, (omega arith, (omega arith, tt))))
+named m audit s = (omega arith, (omega arith, (omega arith, tt)))
+
+pub accepted-exactly : AcceptedExactly
+accepted-exactly m c s = (
+  λ h. number-first m c s ∙ first-none (refusals m c s) h,
+  λ e. none-first (refusals m c s) (named m c s) (sym (number-first m c s) ∙ e),
+)

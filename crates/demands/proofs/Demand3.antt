@@ -1,0 +1,28 @@
+-- Demand 3, proved: see specs/Demand3.antt for what each says. Assumes nothing.
+use mathlib.Core.Path.{sym, ap, _∙_}
+use mathlib.Core.List.{[]}
+use Prim.Native.Nat.{_<_}
+use Rattle.plain.specs.Rules.{Placed}
+use Rattle.plain.specs.Areas.{mapRules}
+use Rattle.plain.specs.Call.{number}
+use Rattle.plain.specs.PlainList.{plainStep}
+use Rattle.plain.proofs.SameLaws.{step-same}
+use Rattle.plain.proofs.RunLaws.{keep, low, run-same, run-each}
+use Rattle.shadows.specs.Shadows.{Shadows, shadowOps, image}
+use Rattle.shadows.proofs.ShadowLaws.{image-fits, map-sound, shadow-images}
+use Rattle.monitor_base.specs.Calls.{call}
+use Rattle.monitor_base.proofs.CallLaws.{call-step}
+use Rattle.demands.specs.Demand3.{shadowRun, WholeRun, NoDamage, OnEveryImage}
+
+pub on-every-image : OnEveryImage
+on-every-image m ok bs P c =
+    call-step m c (image m bs) ok (image-fits m bs) ∙ step-same (mapRules m) (map-sound m ok) (shadowOps m) (image m) (shadow-images m ok) bs P c
+
+pub whole-run : WholeRun
+whole-run m ok cs =
+    ap (λ (s : Shadows). shadowRun m s cs) (sym (shadow-images m ok .image-nil))
+    ∙ run-same (image m) (Placed (mapRules m) 0) (call m) (plainStep (mapRules m)) (λ c bs P. on-every-image m ok bs P c)
+    (keep (mapRules m) (map-sound m ok)) cs [] tt
+
+pub no-damage : NoDamage
+no-damage m ok cs = rw (whole-run m ok cs) (run-each (image m) (plainStep (mapRules m)) (λ a. number a < 8) (low (mapRules m)) cs [])

@@ -1,0 +1,28 @@
+-- The marked samples hold: computed over the whole table. Assumes nothing.
+use mathlib.Core.Path.{_≡_, refl}
+use mathlib.Core.Bool.{true}
+use Rattle.number.specs.Little.{byteOf, word}
+use Rattle.number.specs.Bits.{bitOf, withBit, ofBits, ones}
+use Rattle.number.specs.Parts.{tab, zeros, over}
+use Rattle.map.specs.Map.{goodArea, apart, goodMap}
+use Rattle.plain.specs.Areas.{segments}
+use Rattle.plain.specs.Blocks.{total}
+use Rattle.plain.specs.Layer.{layer}
+use Rattle.plain.specs.Ops.{markRange, readAny}
+use Rattle.plain.specs.ShadowCalls.{climb}
+use Rattle.heap_layout.specs.Image.{cellByte, covers, own, heapByte}
+use Rattle.heap_layout.specs.Reading.{heapReading}
+use Rattle.heap_layout.specs.Walk.{agree, matches, marksAt, heapWalk}
+use Rattle.heap_layout.specs.Ops.{placeLength, heapVacant, heapStamp, heapErase, heapMark}
+use Rattle.stack_layout.specs.Code.{shortCode, pieceOf, codeOf, pieceByte, primaryOf, secondaryOf, lengthFrom, shortLength, shortOffset}
+use Rattle.stack_layout.specs.Image.{primaryOwn, secondaryOwn}
+use Rattle.stack_layout.specs.Reading.{fitted, badPiece, longReading, codeReading, stackReading}
+use Rattle.stack_layout.specs.Walk.{isClear, isByte, lengthAt, stackWalk}
+use Rattle.stack_layout.specs.Ops.{stackVacant, stackStamp}
+use Rattle.shadows.specs.Shadows.{lengthsFit}
+use Rattle.monitor_base.specs.Calls.{call}
+use Rattle.demands.specs.Samples.{sameBytes, runHolds, allHold, table, smallHold}
+
+pub samples-hold : (allHold table ≡ true) × (smallHold ≡ true)
+unfolding byteOf word bitOf withBit ofBits ones tab zeros over goodArea apart goodMap segments total layer markRange readAny climb cellByte covers own heapByte heapReading agree matches marksAt heapWalk placeLength heapVacant heapStamp heapErase heapMark shortCode pieceOf codeOf pieceByte primaryOf secondaryOf lengthFrom shortLength shortOffset primaryOwn secondaryOwn fitted badPiece longReading codeReading stackReading isClear isByte lengthAt stackWalk stackVacant stackStamp lengthsFit call sameBytes runHolds allHold table smallHold
+samples-hold = (refl, refl)

@@ -1,0 +1,44 @@
+-- Demand 3, what it says: for every list of calls, from cleared shadows under one good map, numbers, fields and every shadow byte after each
+-- call are those of the plain list; damage is never reported. Proved in proofs/Demand3.antt. Assumes nothing.
+use mathlib.Core.Path.{_≡_}
+use mathlib.Core.Bool.{true}
+use mathlib.Core.List.{List, []}
+use Prim.Native.Nat.{_<_}
+use lib.ListN.{replicate}
+use Rattle.number.specs.Parts.{Each}
+use Rattle.map.specs.declared.Map.{Map}
+use Rattle.map.specs.Map.{goodMap}
+use Rattle.plain.specs.Block.{Block}
+use Rattle.plain.specs.Rules.{Placed}
+use Rattle.plain.specs.Areas.{mapRules}
+use Rattle.plain.specs.Call.{Call, Answer, number}
+use Rattle.plain.specs.PlainList.{plainStep}
+use Rattle.plain.specs.Run.{run}
+use Rattle.shadows.specs.Shadows.{Shadows, image}
+use Rattle.monitor_base.specs.Calls.{call}
+
+-- cleared shadows: all zeros, each as long as its area
+abbrev pub zeroShadows : Map → Shadows
+zeroShadows m = (replicate (m .«heap_size») 0, (replicate (m .«stack_size») 0, replicate (m .«stack_size») 0))
+
+-- the answer and every shadow byte after each call, each call on what the one before left
+abbrev pub shadowRun : Map → Shadows → List Call → List (Answer × Shadows)
+shadowRun m s cs = run (λ (x : Shadows). x) (call m) s cs
+
+-- the answer of the plain list, and its image, after each call
+abbrev pub plainRun : Map → List Block → List Call → List (Answer × Shadows)
+plainRun m bs cs = run (image m) (plainStep (mapRules m)) bs cs
+
+abbrev pub WholeRun : Type 0
+WholeRun = (m : Map) → goodMap m ≡ true → (cs : List Call) → shadowRun m (zeroShadows m) cs ≡ plainRun m [] cs
+
+-- no answer has number 8
+abbrev pub NoDamage : Type 0
+NoDamage =
+    (m : Map) → goodMap m ≡ true → (cs : List Call) → Each (λ (r : Answer × Shadows). number (r .0) < 8) (shadowRun m (zeroShadows m) cs)
+
+-- demand 2, the rest: on the image of every placeable list, reached by calls or not, every call does what the list does
+abbrev pub OnEveryImage : Type 0
+OnEveryImage =
+    (m : Map) → goodMap m ≡ true → (bs : List Block) → Placed (mapRules m) 0 bs → (c : Call)
+    → call m c (image m bs) ≡ (image m ((plainStep (mapRules m) c bs) .0), (plainStep (mapRules m) c bs) .1)

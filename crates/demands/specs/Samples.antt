@@ -1,0 +1,105 @@
+-- The marked samples of document 01, and its worked example, as one table. Assumes nothing.
+use mathlib.Core.Bool.{Bool, true, false, _&&_}
+use mathlib.Core.List.{List, [], _∷_, _++_}
+use Prim.Native.Nat.{ℕ, suc, _+_}
+use lib.Dec.{eqb}
+use Rattle.number.specs.Parts.{at}
+use Rattle.map.specs.declared.Map.{Map}
+use Rattle.plain.specs.Call.{Call, record-block, free, written, ask, valid, next, audit, Answer, answer, refusal, done}
+use Rattle.plain.specs.Areas.{segments}
+use Rattle.stack_layout.specs.Code.{shortCode}
+use Rattle.shadows.specs.Shadows.{Shadows}
+use Rattle.monitor_base.specs.Calls.{call}
+use Rattle.demands.specs.Demand3.{zeroShadows}
+
+-- calls on cleared shadows under one map, the answer of each, and the bytes of each shadow afterwards from a position on
+pub record Sample : Type 0 where
+  pub calls : List Call
+  pub answers : List Answer
+  pub heap : ℕ × List ℕ
+  pub primary : ℕ × List ℕ
+  pub secondary : ℕ × List ℕ
+
+abbrev pub sampleMap : Map
+sampleMap = record { «heap_start» = 4096; «heap_size» = 64; «stack_start» = 8192; «stack_size» = 32 }
+
+-- ---- does a sample hold
+
+abbrev pub sameAnswer : Answer → Answer → Bool
+sameAnswer (answer k a b c d) (answer k′ a′ b′ c′ d′) = eqb k k′ && eqb a a′ && eqb b b′ && eqb c c′ && eqb d d′
+
+unfoldable pub sameBytes : List ℕ → (q : ℕ) → List ℕ → Bool
+sameBytes h q [] = true
+sameBytes h q (x ∷ xs) = eqb (at h q) x && sameBytes h (suc q) xs
+
+abbrev pub bytesHold : Sample → Shadows → Bool
+bytesHold x s =
+    sameBytes (s .0) (x .heap .0) (x .heap .1) && sameBytes (s .1 .0) (x .primary .0) (x .primary .1)
+    && sameBytes (s .1 .1) (x .secondary .0) (x .secondary .1)
+
+-- the calls give these answers, as many as there are calls, and leave these bytes
+unfoldable pub runHolds : Sample → Shadows → List Call → List Answer → Bool
+runHolds x s [] [] = bytesHold x s
+runHolds x s [] (r ∷ rs) = false
+runHolds x s (c ∷ cs) [] = false
+runHolds x s (c ∷ cs) (r ∷ rs) = let after = call sampleMap c s in sameAnswer (after .1) r && runHolds x (after .0) cs rs
+
+abbrev pub sampleHolds : Sample → Bool
+sampleHolds x = runHolds x (zeroShadows sampleMap) (x .calls) (x .answers)
+
+unfoldable pub allHold : List Sample → Bool
+allHold [] = true
+allHold (x ∷ xs) = sampleHolds x && allHold xs
+
+-- ---- the table
+
+abbrev one : Call → Answer → Sample
+one c r = record { calls = c ∷ []; answers = r ∷ []; heap = (0, []); primary = (0, []); secondary = (0, []) }
+
+unfoldable pub table : List Sample
+table =
+    -- after the first three lines of the worked example, heap shadow positions 0 to 31
+    record {
+      calls = record-block 4104 20 ∷ written 4108 6 ∷ [];
+      answers = done ∷ done ∷ [];
+      heap = (
+        0,
+        (0 ∷ 0 ∷ 0 ∷ 0 ∷ 20 ∷ 0 ∷ 0 ∷ 0 ∷ []) ++ (1 ∷ 0 ∷ 0 ∷ 0 ∷ 240 ∷ 0 ∷ 0 ∷ 0 ∷ []) ++ (9 ∷ 0 ∷ 0 ∷ 0 ∷ 3 ∷ 0 ∷ 0 ∷ 0 ∷ [])
+            ++ (17 ∷ 0 ∷ 0 ∷ 0 ∷ 0 ∷ 0 ∷ 0 ∷ 0 ∷ []),
+      );
+      primary = (0, []);
+      secondary = (0, []);
+    }
+    -- record 8195, 11: primary positions 3 to 13, secondary 3 to 10
+    ∷ record {
+      calls = record-block 8195 11 ∷ [];
+      answers = done ∷ [];
+      heap = (0, []);
+      primary = (3, 192 ∷ 196 ∷ 200 ∷ 204 ∷ 208 ∷ 212 ∷ 216 ∷ 220 ∷ 224 ∷ 228 ∷ 232 ∷ []);
+      secondary = (3, 11 ∷ 0 ∷ 0 ∷ 0 ∷ 0 ∷ 0 ∷ 0 ∷ 0 ∷ []);
+    }
+    ∷ one (record-block 4096 4) (refusal 4)
+    ∷ one (record-block 4108 4) (refusal 5)
+    ∷ one (record-block 4152 8) done
+    ∷ one (record-block 4152 9) (refusal 4)
+    ∷ one (record-block 8216 8) done
+    ∷ one (record-block 8216 9) (refusal 4)
+    ∷ one (ask 0) (refusal 4)
+    -- the worked example: its map line clears the shadows, the other fourteen are calls
+    ∷ record {
+      calls =
+          record-block 4104 20 ∷ written 4108 6 ∷ ask 4113 ∷ ask 4124 ∷ record-block 4128 4 ∷ record-block 4136 4 ∷ record-block 8195 11 ∷ ask 8205
+          ∷ valid 8200 7 8195 ∷ valid 8200 6 8195 ∷ next 4105 ∷ audit ∷ free 4105 ∷ free 4104 ∷ [];
+      answers =
+          done ∷ done ∷ answer 0 4104 20 9 1 ∷ refusal 7 ∷ refusal 6 ∷ done ∷ done ∷ answer 0 8195 11 10 0 ∷ answer 0 0 0 0 0 ∷ answer 0 1 0 0 0
+          ∷ answer 0 4136 4 0 0 ∷ answer 0 2 1 35 6 ∷ refusal 7 ∷ done ∷ [];
+      heap = (0, []);
+      primary = (0, []);
+      secondary = (0, []);
+    }
+    ∷ []
+
+-- codes (1, 0) = 1, (5, 2) = 13, (8, 7) = 36; a heap block of 8 takes one segment, of 9 two
+unfoldable pub smallHold : Bool
+smallHold =
+    eqb (shortCode 1 0) 1 && eqb (shortCode 5 2) 13 && eqb (shortCode 8 7) 36 && eqb (segments 8 8) 1 && eqb (segments 8 9) 2

@@ -1,0 +1,6 @@
+pub mod AnswerLaws
+pub mod AskingLaws
+pub mod AuditingLaws
+pub mod JudgingLaws
+pub mod RangeLaws
+pub mod SearchingLaws

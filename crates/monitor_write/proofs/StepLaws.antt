@@ -1,0 +1,91 @@
+-- What a call that writes comes to, of whatever rules and layout, by what its tests say. Assumes nothing.
+use mathlib.Core.Path.{_≡_, refl, ap, _∙_}
+use mathlib.Core.Bool.{Bool, true, false, not}
+use mathlib.Core.Logic.{_≢_}
+use mathlib.Core.List.{[], _∷_}
+use Prim.Native.Nat.{ℕ, zero, suc}
+use lib.Dec.{eqb}
+use borrow.Author.Tests.{eq-eqb, ne-eqb}
+use Rattle.plain.specs.Block.{fresh}
+use Rattle.plain.specs.Rules.{Rules}
+use Rattle.plain.specs.Reading.{Reading}
+use Rattle.plain.specs.Ops.{Ops, markRange, readAny}
+use Rattle.plain.specs.Call.{Call, record-block, free, written, Answer, refusal, done, firstOf, unless}
+use Rattle.plain.specs.ShadowCalls.{isDamaged, isFirst, inOne, lengthOf, shadowStep}
+use Rattle.monitor_write.specs.AreaCalls.{freeRefusal, writtenRefusal}
+
+module _ {S : Type 0} (R : Rules) (O : Ops S) (s : S) where
+  abbrev step : Call → S × Answer
+  step c = shadowStep R O c s
+
+  module _ (b l : ℕ) where
+    pub record-3 : l ≡ 0 → step (record-block b l) ≡ (s, refusal 3)
+    unfolding shadowStep
+    record-3 e = rw e
+
+    pub record-4 : l ≢ 0 → R .fits b l ≡ false → step (record-block b l) ≡ (s, refusal 4)
+    unfolding shadowStep
+    record-4 n f = rw (ne-eqb l 0 n, f)
+
+    pub record-5 : l ≢ 0 → R .fits b l ≡ true → R .aligned b ≡ false → step (record-block b l) ≡ (s, refusal 5)
+    unfolding shadowStep
+    record-5 n f a = rw (ne-eqb l 0 n, f, a)
+
+    pub record-6 : l ≢ 0 → R .fits b l ≡ true → R .aligned b ≡ true → O .vacant s b l ≡ false → step (record-block b l) ≡ (s, refusal 6)
+    unfolding shadowStep
+    record-6 n f a v = rw (ne-eqb l 0 n, f, a, v)
+
+    pub record-0 : l ≢ 0 → R .fits b l ≡ true → R .aligned b ≡ true → O .vacant s b l ≡ true → (t : S) → t ≡ O .stamp s (fresh b l)
+        → step (record-block b l) ≡ (t, done)
+    unfolding shadowStep
+    record-0 n f a v t e = rw (ne-eqb l 0 n, f, a, v, e)
+
+  -- refused by a number that is known by an equation, or accepted
+  by-number : (j k : ℕ) (x : S × Answer) → k ≡ j → k ≢ 0 → unless j s x ≡ (s, refusal k)
+  by-number zero k x e n = absurd (n e)
+  by-number (suc j) k x e n = rw e
+
+  by-zero : (j k : ℕ) (t u : S) → k ≡ j → k ≡ 0 → u ≡ t → unless j s (t, done) ≡ (u, refusal k)
+  by-zero j k t u e z h = rw (← e, z, h)
+
+  module _ (a : ℕ) where
+    -- what is done, by whether the address lies in an area and by what is read there
+    abbrev pub freed : Bool → Reading → S × Answer
+    freed i r = unless (firstOf ((4, not i) ∷ (8, isDamaged r) ∷ (7, not (isFirst r)) ∷ [])) s (O .erase s a (lengthOf r), done)
+
+    pub free-is : (i : Bool) (r : Reading) → R .inside a ≡ i → readAny R O s a ≡ r → step (free a) ≡ freed i r
+    unfolding shadowStep
+    free-is i r e h = ap (freed (R .inside a)) h ∙ ap (λ (x : Bool). freed x r) e
+
+    abbrev pub marks : (n : ℕ) → Bool → Reading → S × Answer
+    marks n i r = unless (firstOf ((3, eqb n 0) ∷ (4, not i) ∷ (8, isDamaged r) ∷ (7, not (inOne n r)) ∷ [])) s (markRange O s a n, done)
+
+    pub written-is : (n : ℕ) (i : Bool) (r : Reading) → R .inside a ≡ i → readAny R O s a ≡ r → step (written a n) ≡ marks n i r
+    unfolding shadowStep
+    written-is n i r e h = ap (marks n (R .inside a)) h ∙ ap (λ (x : Bool). marks n x r) e
+
+    pub written-3 : (n : ℕ) → n ≡ 0 → step (written a n) ≡ (s, refusal 3)
+    unfolding shadowStep
+    written-3 n e = rw (eq-eqb n 0 e)
+
+    pub written-4 : (n : ℕ) → n ≢ 0 → R .inside a ≡ false → step (written a n) ≡ (s, refusal 4)
+    written-4 n m i = written-is n false (readAny R O s a) i refl ∙ rw (ne-eqb n 0 m)
+
+    -- an address of an area, its reading, and the number k that the reading decides
+    module _ (i : R .inside a ≡ true) (r : Reading) (e : readAny R O s a ≡ r) (k : ℕ) where
+      module _ (q : k ≡ freeRefusal r) where
+        pub free-refused : k ≢ 0 → step (free a) ≡ (s, refusal k)
+        free-refused n = free-is true r i e ∙ by-number (freeRefusal r) k (O .erase s a (lengthOf r), done) q n
+
+        pub free-done : k ≡ 0 → (l : ℕ) → l ≡ lengthOf r → (t : S) → t ≡ O .erase s a l → step (free a) ≡ (t, refusal k)
+        free-done z l p t h = free-is true r i e ∙ by-zero (freeRefusal r) k (O .erase s a (lengthOf r)) t q z (h ∙ ap (O .erase s a) p)
+
+      module _ (n : ℕ) (m : n ≢ 0) (q : k ≡ writtenRefusal n r) where
+        marked : step (written a n) ≡ unless (writtenRefusal n r) s (markRange O s a n, done)
+        marked = written-is n true r i e ∙ rw (ne-eqb n 0 m)
+
+        pub written-refused : k ≢ 0 → step (written a n) ≡ (s, refusal k)
+        written-refused x = marked ∙ by-number (writtenRefusal n r) k (markRange O s a n, done) q x
+
+        pub written-done : k ≡ 0 → (t : S) → t ≡ markRange O s a n → step (written a n) ≡ (t, refusal k)
+        written-done z t h = marked ∙ by-zero (writtenRefusal n r) k (markRange O s a n) t q z h

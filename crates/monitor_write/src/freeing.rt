@@ -1,0 +1,95 @@
+// Frees a block.
+ghost use mathlib.Core.Path.{_≡_};
+ghost use mathlib.Core.List.{List};
+ghost use Prim.Native.Nat.{ℕ, _%_, _≤_, _<_};
+ghost use lib.ListN.{length};
+ghost use Rattle.plain.specs.Answers.{readingOf};
+ghost use Rattle.plain.specs.Call as plain;
+ghost use Rattle.plain.specs.ShadowCalls.{lengthOf};
+ghost use Rattle.stack_layout.specs.Ops.{StackShadows};
+ghost use Rattle.monitor_base.specs.Answers.{outcome};
+ghost use Rattle.monitor_write.specs.AreaCalls.{freeRefusal, onHeap, onStack};
+ghost use Rattle.monitor_base.specs.Calls.{call};
+use crate::Located;
+use crate::locating::locate;
+use map::Address;
+use map::Map;
+use map::Position;
+use monitor_base::Answer;
+use monitor_base::guard;
+use plain::Reading;
+
+// The number that a reading at the base gives: 0 at a block's first byte.
+fn refused(r: Reading) -> u32
+    ensures { λ k. ⌜ k ≡ freeRefusal (readingOf r) ⌝ }
+{
+    match r {
+        Reading::Nothing => 7,
+        Reading::Damaged => 8,
+        Reading::Block(_, _, offset, _) => {
+            if offset != 0 {
+                return 7;
+            }
+            0
+        }
+    }
+}
+
+fn length_of(r: Reading) -> u32
+    ensures { λ n. ⌜ n ≡ lengthOf (readingOf r) ⌝ }
+{
+    match r {
+        Reading::Nothing => 0,
+        Reading::Damaged => 0,
+        Reading::Block(_, len, _, _) => len,
+    }
+}
+
+// In the heap. The number.
+fn on_heap(heap: &mut [u8], base: Position) -> u32
+    requires { ⌜ (base .0 < length (now heap)) × (length (now heap) % 8 ≡ 0) × (length (now heap) ≤ 131072) ⌝ }
+    ensures { λ r. ⌜ _≡_ {A = List ℕ × plain.Answer} (now (heap .exit), plain.refusal r) (onHeap (plain.free (base .0)) (now (heap .entry))) ⌝ }
+{
+    let r = heap::read(heap, base);
+    let k = refused(r);
+    if k == 0 {
+        heap::erase(heap, base, length_of(r));
+    }
+    k
+}
+
+// In the stack. The number.
+fn on_stack(primary: &mut [u8], secondary: &mut [u8], base: Position) -> u32
+    requires { ⌜ (base .0 < length (now primary)) × (length (now primary) ≡ length (now secondary)) × (length (now primary) ≤ 65536) ⌝ }
+    ensures { λ r. ⌜ _≡_ {A = StackShadows × plain.Answer} ((now (primary .exit), now (secondary .exit)), plain.refusal r)
+        (onStack (plain.free (base .0)) (now (primary .entry), now (secondary .entry))) ⌝ }
+{
+    let r = stack::read(primary, secondary, base);
+    let k = refused(r);
+    if k == 0 {
+        stack::erase(primary, secondary, base, length_of(r));
+    }
+    k
+}
+
+// Zeros in the shadow of the block and of its header.
+pub fn free(
+    map: Map,
+    heap: &mut [u8],
+    primary: &mut [u8],
+    secondary: &mut [u8],
+    base: Address,
+) -> Answer
+    ensures { λ r. ⌜ outcome r (now (heap .exit)) (now (primary .exit)) (now (secondary .exit))
+        ≡ call map (plain.free (base .0)) (now (heap .entry), (now (primary .entry), now (secondary .entry))) ⌝ }
+{
+    let k = guard::checked(map, heap.len(), primary.len(), secondary.len());
+    if k != 0 {
+        return guard::refusal(k);
+    }
+    match locate(map, base) {
+        Located::Heap(p) => guard::refusal(on_heap(heap, p)),
+        Located::Stack(p) => guard::refusal(on_stack(primary, secondary, p)),
+        Located::Outside => guard::refusal(4),
+    }
+}

@@ -1,0 +1,129 @@
+-- Each call keeps the plain list placed and gives no 8; what holds of each call holds of every list of calls. Assumes nothing.
+use mathlib.Core.Path.{_≡_, refl}
+use mathlib.Core.Bool.{Bool, true, false, cond, not}
+use mathlib.Core.List.{List, [], _∷_, _++_}
+use mathlib.Core.Logic.{_≢_}
+use mathlib.Core.Option.{Option, none, some}
+use Prim.Native.Nat.{ℕ, zero, suc, _+_, _<_}
+use native.Mathlib.Omega.{arith}
+use lib.ListN.{length-replicate}
+use lib.Dec.{leb, eqb}
+use borrow.Author.Tests.{eqb-false}
+use Rattle.number.specs.Parts.{Each}
+use Rattle.number.proofs.TestLaws.{Test, is-true, is-false, test}
+use Rattle.plain.specs.Block.{Block, len, fresh, contains}
+use Rattle.plain.specs.Blocks.{find, any, insert}
+use Rattle.plain.specs.Rules.{Rules, Placed, Sound, meets}
+use Rattle.plain.specs.Call.{Call, clear, record-block, free, written, ask, valid, initialised, next, audit, number, Refusal, firstOf, unless, byRules}
+use Rattle.plain.specs.PlainList.{byList, listAfter, listAnswer, askOf, nextOf, plainStep}
+use Rattle.plain.specs.Run.{run}
+use Rattle.plain.proofs.KeptLaws.{insert-placed, remove-placed, marks-placed}
+
+-- ---- the placing rules hold after each call
+
+module _ (R : Rules) (G : Sound R) where
+  keep-record : (b l : ℕ) (bs : List Block) → Placed R 0 bs → firstOf (byRules R (record-block b l) ++ byList R (record-block b l) bs) ≡ 0
+      → Placed R 0 (insert (fresh b l) bs)
+  keep-record b l bs P = go (test (eqb l 0)) (test (R .fits b l)) (test (R .aligned b)) (test (any (meets R b l) bs))
+    where
+      ln : len (fresh b l) ≡ l
+      ln = length-replicate l false
+
+      go : Test (eqb l 0) → Test (R .fits b l) → Test (R .aligned b) → Test (any (meets R b l) bs)
+          → _≡_ {A = ℕ} (cond (eqb l 0) 3 (cond (not (R .fits b l)) 4 (cond (not (R .aligned b)) 5 (cond (any (meets R b l) bs) 6 0)))) 0 → Placed R 0 (insert (fresh b l) bs)
+      go (is-true n) f a m e = absurd (omega (arith, rw n at e))
+      go (is-false n) (is-false f) a m e = absurd (omega (arith, rw (n, f) at e))
+      go (is-false n) (is-true f) (is-false a) m e = absurd (omega (arith, rw (n, f, a) at e))
+      go (is-false n) (is-true f) (is-true a) (is-true m) e = absurd (omega (arith, rw (n, f, a, m) at e))
+      go (is-false n) (is-true f) (is-true a) (is-false m) e =
+          let k : l ≢ 0 = eqb-false l 0 n in
+          insert-placed R G (fresh b l) (rw ln (omega arith)) (rw ln f) a bs 0 (omega arith) P (rw ln m)
+
+  keep-after : (c : Call) (bs : List Block) → Placed R 0 bs → firstOf (byRules R c ++ byList R c bs) ≡ 0 → Placed R 0 (listAfter c bs)
+  keep-after clear bs P e = tt
+  keep-after (record-block b l) bs P e = keep-record b l bs P e
+  keep-after (free x) bs P e = remove-placed R G x bs 0 P
+  keep-after (written a n) bs P e = marks-placed R n a bs 0 P
+  keep-after (ask a) bs P e = P
+  keep-after (valid a n from) bs P e = P
+  keep-after (initialised a n) bs P e = P
+  keep-after (next a) bs P e = P
+  keep-after audit bs P e = P
+
+  pub keep : (c : Call) (bs : List Block) → Placed R 0 bs → Placed R 0 ((plainStep R c bs) .0)
+  unfolding plainStep
+  keep c bs P = go (firstOf (byRules R c ++ byList R c bs)) refl
+    where
+      go : (k : ℕ) → firstOf (byRules R c ++ byList R c bs) ≡ k → Placed R 0 ((unless k bs (listAfter c bs, listAnswer R c bs)) .0)
+      go zero e = keep-after c bs P e
+      go (suc k) e = P
+
+-- ---- number 8 is never given
+
+abbrev Low : List Refusal → Type 0
+Low rs = Each (λ (r : Refusal). r .0 < 8) rs
+
+first-low : (rs : List Refusal) → Low rs → firstOf rs < 8
+first-low [] h = omega arith
+first-low (r ∷ rs) h = go (r .1) (first-low rs (h .1))
+  where
+    go : (t : Bool) → firstOf rs < 8 → cond t (r .0) (firstOf rs) < 8
+    go true k = h .0
+    go false k = k
+
+listed-low : (R : Rules) (c : Call) (bs : List Block) → Low (byRules R c ++ byList R c bs)
+listed-low R clear bs = tt
+listed-low R (record-block b l) bs = (omega arith, (omega arith, (omega arith, (omega arith, tt))))
+listed-low R (free x) bs = (omega arith, (omega arith, tt))
+listed-low R (written a n) bs = (omega arith, (omega arith, (omega arith, tt)))
+listed-low R (ask a) bs = (omega arith, (omega arith, tt))
+listed-low R (valid a n from) bs = (omega arith, tt)
+listed-low R (initialised a n) bs = (omega arith, tt)
+listed-low R (next a) bs = (omega arith, tt)
+listed-low R audit bs = tt
+
+-- an accepted call has number 0
+pub accepted-0 : (R : Rules) (c : Call) (bs : List Block) → number (listAnswer R c bs) ≡ 0
+accepted-0 R clear bs = refl
+accepted-0 R (record-block b l) bs = refl
+accepted-0 R (free x) bs = refl
+accepted-0 R (written a n) bs = refl
+accepted-0 R (ask a) bs = go (find (contains a) bs)
+  where
+    go : (o : Option Block) → number (askOf a o) ≡ 0
+    go none = refl
+    go (some b) = refl
+accepted-0 R (valid a n from) bs = refl
+accepted-0 R (initialised a n) bs = refl
+accepted-0 R (next a) bs = go (find (λ b. leb a (b .base)) bs)
+  where
+    go : (o : Option Block) → number (nextOf o) ≡ 0
+    go none = refl
+    go (some b) = refl
+accepted-0 R audit bs = refl
+
+pub low : (R : Rules) (c : Call) (bs : List Block) → number ((plainStep R c bs) .1) < 8
+unfolding plainStep
+low R c bs = go (firstOf (byRules R c ++ byList R c bs)) (first-low (byRules R c ++ byList R c bs) (listed-low R c bs))
+  where
+    go : (k : ℕ) → k < 8 → number ((unless k bs (listAfter c bs, listAnswer R c bs)) .1) < 8
+    go zero h = rw (accepted-0 R c bs) (omega arith)
+    go (suc k) h = h
+
+-- ---- whole lists of calls
+
+-- where each call does on a view what it does on the state behind it, and keeps the state good, so does every list of calls
+module _ {C A X S : Type 0} (view : X → S) (Good : X → Type 0) (act : C → S → S × A) (plainly : C → X → X × A)
+    (same : (c : C) (x : X) → Good x → act c (view x) ≡ (view ((plainly c x) .0), (plainly c x) .1))
+    (keeps : (c : C) (x : X) → Good x → Good ((plainly c x) .0)) where
+  pub run-same : (cs : List C) (x : X) → Good x → run (λ (s : S). s) act (view x) cs ≡ run view plainly x cs
+  unfolding run
+  run-same [] x h = refl
+  run-same (c ∷ cs) x h = rw (same c x h, run-same cs ((plainly c x) .0) (keeps c x h))
+
+-- what holds of each answer holds of each in a run
+module _ {C A X S : Type 0} (view : X → S) (act : C → X → X × A) (ok : A → Type 0) (each : (c : C) (x : X) → ok ((act c x) .1)) where
+  pub run-each : (cs : List C) (x : X) → Each (λ (r : A × S). ok (r .0)) (run view act x cs)
+  unfolding run
+  run-each [] x = tt
+  run-each (c ∷ cs) x = (each c x, run-each cs ((act c x) .0))

@@ -1,0 +1,129 @@
+-- The calls on a shadow state of whatever layout, by its operations, for any bytes. Assumes nothing.
+use mathlib.Core.Bool.{Bool, true, false, not, _&&_, _||_}
+use mathlib.Core.List.{List, [], _∷_, _++_}
+use mathlib.Core.Option.{Option, none, some}
+use Prim.Native.Nat.{ℕ, zero, suc, _+_, _-_}
+use lib.Dec.{leb, eqb}
+use Rattle.plain.specs.Block.{fresh}
+use Rattle.plain.specs.Rules.{Rules}
+use Rattle.plain.specs.Reading.{Reading, nothing, block, damaged, Tally, tally}
+use Rattle.plain.specs.Ops.{Ops, markRange, rangeMarked, readAny}
+use Rattle.plain.specs.Call.{Call, clear, record-block, free, written, ask, valid, initialised, next, audit, Answer, answer, done, yesNo, Refusal, firstOf, unless, byRules}
+
+-- ---- what a reading says
+
+abbrev pub isDamaged : Reading → Bool
+isDamaged nothing = false
+isDamaged (block b l o m) = false
+isDamaged damaged = true
+
+abbrev pub isBlock : Reading → Bool
+isBlock nothing = false
+isBlock (block b l o m) = true
+isBlock damaged = false
+
+-- a block's first byte
+abbrev pub isFirst : Reading → Bool
+isFirst nothing = false
+isFirst (block b l o m) = eqb o 0
+isFirst damaged = false
+
+-- the reading of the first of n bytes gives a block in which they lie
+abbrev pub inOne : (n : ℕ) → Reading → Bool
+inOne n nothing = false
+inOne n (block b l o m) = leb (o + n) l
+inOne n damaged = false
+
+-- two readings give the same block
+abbrev pub sameBlock : Reading → Reading → Bool
+sameBlock (block b l o m) (block b′ l′ o′ m′) = eqb b b′ && eqb l l′
+sameBlock (block b l o m) nothing = false
+sameBlock (block b l o m) damaged = false
+sameBlock nothing r = false
+sameBlock damaged r = false
+
+abbrev pub lengthOf : Reading → ℕ
+lengthOf nothing = 0
+lengthOf (block b l o m) = l
+lengthOf damaged = 0
+
+-- ---- the search for the next block: it climbs address by address and ends at the first reading with offset 0, or a damaged one
+
+abbrev pub stop : Reading → Reading → Reading
+stop nothing above = above
+stop (block b l zero m) above = block b l zero m
+stop (block b l (suc o) m) above = above
+stop damaged above = damaged
+
+-- the n addresses from a on; nothing where no block begins there
+unfoldable pub climb : (ℕ → Reading) → (a n : ℕ) → Reading
+climb rd a zero = nothing
+climb rd a (suc n) = let above = climb rd (suc a) n in stop (rd a) above
+
+-- ---- the calls
+
+abbrev pub isNone : Option Tally → Bool
+isNone none = true
+isNone (some t) = false
+
+abbrev pub askAnswer : Reading → Answer
+askAnswer nothing = done
+askAnswer (block b l o m) = answer 0 b l o m
+askAnswer damaged = done
+
+abbrev pub nextAnswer : Reading → Answer
+nextAnswer nothing = done
+nextAnswer (block b l o m) = answer 0 b l 0 0
+nextAnswer damaged = done
+
+abbrev pub auditAnswer : Option Tally → Answer
+auditAnswer none = done
+auditAnswer (some (tally h k l w)) = answer 0 h k l w
+
+module _ {S : Type 0} (R : Rules) (O : Ops S) where
+  abbrev pub reading : S → ℕ → Reading
+  reading s a = readAny R O s a
+
+  -- every address from a on; above the last area there is no block
+  abbrev pub search : S → ℕ → Reading
+  search s a = climb (reading s) a (R .top - a)
+
+  -- the refusals that the shadows decide: 6 where the place is not zero, 8 where a reading is damaged, 7 where there is no such block
+  abbrev pub byShadows : Call → S → List Refusal
+  byShadows clear s = []
+  byShadows (record-block b l) s = (6, not (O .vacant s b l)) ∷ []
+  byShadows (free x) s = (8, isDamaged (reading s x)) ∷ (7, not (isFirst (reading s x))) ∷ []
+  byShadows (written a n) s = (8, isDamaged (reading s a)) ∷ (7, not (inOne n (reading s a))) ∷ []
+  byShadows (ask a) s = (8, isDamaged (reading s a)) ∷ (7, not (isBlock (reading s a))) ∷ []
+  byShadows (valid a n from) s = (8, isDamaged (reading s a) || isDamaged (reading s from)) ∷ []
+  byShadows (initialised a n) s = (8, isDamaged (reading s a)) ∷ []
+  byShadows (next a) s = (8, isDamaged (search s a)) ∷ (7, not (isBlock (search s a))) ∷ []
+  byShadows audit s = (8, isNone (O .audit s)) ∷ []
+
+  -- the shadows after an accepted call
+  abbrev pub shadowsAfter : Call → S → S
+  shadowsAfter clear s = O .cleared
+  shadowsAfter (record-block b l) s = O .stamp s (fresh b l)
+  shadowsAfter (free x) s = O .erase s x (lengthOf (reading s x))
+  shadowsAfter (written a n) s = markRange O s a n
+  shadowsAfter (ask a) s = s
+  shadowsAfter (valid a n from) s = s
+  shadowsAfter (initialised a n) s = s
+  shadowsAfter (next a) s = s
+  shadowsAfter audit s = s
+
+  -- the answer of an accepted call
+  abbrev pub shadowAnswer : Call → S → Answer
+  shadowAnswer clear s = done
+  shadowAnswer (record-block b l) s = done
+  shadowAnswer (free x) s = done
+  shadowAnswer (written a n) s = done
+  shadowAnswer (ask a) s = askAnswer (reading s a)
+  shadowAnswer (valid a n from) s = yesNo (inOne n (reading s a) && sameBlock (reading s a) (reading s from))
+  shadowAnswer (initialised a n) s = yesNo (inOne n (reading s a) && rangeMarked O s a n)
+  shadowAnswer (next a) s = nextAnswer (search s a)
+  shadowAnswer audit s = auditAnswer (O .audit s)
+
+  -- one call on the shadows
+  unfoldable pub shadowStep : Call → S → S × Answer
+  shadowStep c s = unless (firstOf (byRules R c ++ byShadows c s)) s (shadowsAfter c s, shadowAnswer c s)
