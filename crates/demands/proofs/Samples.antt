@@ -21,8 +21,8 @@ use Rattle.stack_layout.specs.Walk.{isClear, isByte, lengthAt, stackWalk}
 use Rattle.stack_layout.specs.Ops.{stackVacant, stackStamp}
 use Rattle.shadows.specs.Shadows.{lengthsFit}
 use Rattle.monitor_base.specs.Calls.{call}
-use Rattle.demands.specs.Samples.{sameBytes, runHolds, allHold, table, smallHold}
+use Rattle.demands.specs.Samples.{sameBytes, runHolds, allHold, table, edges, SamplesHold}
 
-pub samples-hold : (allHold table ≡ true) × (smallHold ≡ true)
-unfolding byteOf word bitOf withBit ofBits ones tab zeros over goodArea apart goodMap segments total layer markRange readAny climb cellByte covers own heapByte heapReading agree matches marksAt heapWalk placeLength heapVacant heapStamp heapErase heapMark shortCode pieceOf codeOf pieceByte primaryOf secondaryOf lengthFrom shortLength shortOffset primaryOwn secondaryOwn fitted badPiece longReading codeReading stackReading isClear isByte lengthAt stackWalk stackVacant stackStamp lengthsFit call sameBytes runHolds allHold table smallHold
+pub samples-hold : SamplesHold
+unfolding byteOf word bitOf withBit ofBits ones tab zeros over goodArea apart goodMap segments total layer markRange readAny climb cellByte covers own heapByte heapReading agree matches marksAt heapWalk placeLength heapVacant heapStamp heapErase heapMark shortCode pieceOf codeOf pieceByte primaryOf secondaryOf lengthFrom shortLength shortOffset primaryOwn secondaryOwn fitted badPiece longReading codeReading stackReading isClear isByte lengthAt stackWalk stackVacant stackStamp lengthsFit call sameBytes runHolds allHold table edges
 samples-hold = (refl, refl)

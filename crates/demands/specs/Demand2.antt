@@ -1,5 +1,7 @@
 -- Demand 2, what it says: readings look at nine bytes at most, a list of blocks has one image, an audit accepts exactly the images, and
--- the list read back is the list it was made of. Each statement is proved in proofs/Demand2.antt. Assumes nothing.
+-- the list read back is the list it was made of. Each statement is proved in proofs/Demand2.antt. That readings follow the encodings for all
+-- bytes is the contract of `heap::read` and `stack::read`; that every call on every image answers as the list does is `OnEveryImage` of
+-- Demand3.antt. Assumes nothing.
 use mathlib.Core.Path.{_≡_}
 use mathlib.Core.Bool.{true}
 use mathlib.Core.List.{List}
@@ -25,7 +27,8 @@ NineBytes =
     × ((t : Shadows) → Each (λ q. byteAt t q ≡ byteAt s q) (looks m s a)
     → (readAny (mapRules m) (shadowOps m) t a ≡ readAny (mapRules m) (shadowOps m) s a) × (looks m t a ≡ looks m s a))
 
--- two placed lists (placeable blocks in address order) with the same image are the same list
+-- a list has one image, since `image` is a function; and an image has one list: two placed lists (placeable blocks in address order) with
+-- the same image are the same list
 abbrev pub OneImage : Type 0
 OneImage =
     (m : Map) → goodMap m ≡ true → (bs cs : List Block) → Placed (mapRules m) 0 bs → Placed (mapRules m) 0 cs → image m bs ≡ image m cs → bs ≡ cs

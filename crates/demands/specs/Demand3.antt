@@ -1,5 +1,7 @@
 -- Demand 3, what it says: for every list of calls, from cleared shadows under one good map, numbers, fields and every shadow byte after each
--- call are those of the plain list; damage is never reported. Proved in proofs/Demand3.antt. Assumes nothing.
+-- call are those of the plain list; damage is never reported. Proved in proofs/Demand3.antt. The code comes in by its contracts: each function of
+-- `monitor`, and `step` for any call, gives the answer and leaves the shadows that `call` says, so that a run of the code is `shadowRun`.
+-- Assumes nothing.
 use mathlib.Core.Path.{_≡_}
 use mathlib.Core.Bool.{true}
 use mathlib.Core.List.{List, []}

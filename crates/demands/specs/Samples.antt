@@ -1,13 +1,12 @@
 -- The marked samples of document 01, and its worked example, as one table. Assumes nothing.
+use mathlib.Core.Path.{_≡_}
 use mathlib.Core.Bool.{Bool, true, false, _&&_}
 use mathlib.Core.List.{List, [], _∷_, _++_}
-use Prim.Native.Nat.{ℕ, suc, _+_}
+use Prim.Native.Nat.{ℕ, suc, _*_}
 use lib.Dec.{eqb}
 use Rattle.number.specs.Parts.{at}
 use Rattle.map.specs.declared.Map.{Map}
-use Rattle.plain.specs.Call.{Call, record-block, free, written, ask, valid, next, audit, Answer, answer, refusal, done}
-use Rattle.plain.specs.Areas.{segments}
-use Rattle.stack_layout.specs.Code.{shortCode}
+use Rattle.plain.specs.Call.{Call, clear, record-block, free, written, ask, valid, initialised, next, audit, Answer, answer, refusal, done}
 use Rattle.shadows.specs.Shadows.{Shadows}
 use Rattle.monitor_base.specs.Calls.{call}
 use Rattle.demands.specs.Demand3.{zeroShadows}
@@ -53,8 +52,20 @@ allHold (x ∷ xs) = sampleHolds x && allHold xs
 
 -- ---- the table
 
+-- one call, of which the answer is looked at
 abbrev one : Call → Answer → Sample
 one c r = record { calls = c ∷ []; answers = r ∷ []; heap = (0, []); primary = (0, []); secondary = (0, []) }
+
+-- one recording that is accepted, and the primary byte at a position after it
+abbrev coded : (base length position byte : ℕ) → Sample
+coded b l q x = record { calls = record-block b l ∷ []; answers = done ∷ []; heap = (0, []); primary = (q, x ∷ []); secondary = (0, []) }
+
+-- one recording that is accepted, and the heap shadow from position 0 on after it
+abbrev stored : (base length : ℕ) → List ℕ → Sample
+stored b l h = record { calls = record-block b l ∷ []; answers = done ∷ []; heap = (0, h); primary = (0, []); secondary = (0, []) }
+
+abbrev zeros8 : List ℕ
+zeros8 = 0 ∷ 0 ∷ 0 ∷ 0 ∷ 0 ∷ 0 ∷ 0 ∷ 0 ∷ []
 
 unfoldable pub table : List Sample
 table =
@@ -78,6 +89,11 @@ table =
       primary = (3, 192 ∷ 196 ∷ 200 ∷ 204 ∷ 208 ∷ 212 ∷ 216 ∷ 220 ∷ 224 ∷ 228 ∷ 232 ∷ []);
       secondary = (3, 11 ∷ 0 ∷ 0 ∷ 0 ∷ 0 ∷ 0 ∷ 0 ∷ 0 ∷ []);
     }
+    -- codes (1, 0) = 1, (5, 2) = 13, (8, 7) = 36
+    ∷ coded 8192 1 0 (4 * 1)
+    ∷ coded 8192 5 2 (4 * 13)
+    ∷ coded 8192 8 7 (4 * 36)
+    -- record at the edges; ask 0
     ∷ one (record-block 4096 4) (refusal 4)
     ∷ one (record-block 4108 4) (refusal 5)
     ∷ one (record-block 4152 8) done
@@ -85,13 +101,16 @@ table =
     ∷ one (record-block 8216 8) done
     ∷ one (record-block 8216 9) (refusal 4)
     ∷ one (ask 0) (refusal 4)
-    -- the worked example: its map line clears the shadows, the other fourteen are calls
+    -- a heap block of 8 takes one segment, of 9 two
+    ∷ stored 4104 8 ((0 ∷ 0 ∷ 0 ∷ 0 ∷ 8 ∷ 0 ∷ 0 ∷ 0 ∷ []) ++ (1 ∷ 0 ∷ 0 ∷ 0 ∷ 0 ∷ 0 ∷ 0 ∷ 0 ∷ []) ++ zeros8)
+    ∷ stored 4104 9 ((0 ∷ 0 ∷ 0 ∷ 0 ∷ 9 ∷ 0 ∷ 0 ∷ 0 ∷ []) ++ (1 ∷ 0 ∷ 0 ∷ 0 ∷ 0 ∷ 0 ∷ 0 ∷ 0 ∷ []) ++ (9 ∷ 0 ∷ 0 ∷ 0 ∷ 0 ∷ 0 ∷ 0 ∷ 0 ∷ []) ++ zeros8)
+    -- the worked example: an accepted map clears, and the other fourteen lines are calls
     ∷ record {
       calls =
-          record-block 4104 20 ∷ written 4108 6 ∷ ask 4113 ∷ ask 4124 ∷ record-block 4128 4 ∷ record-block 4136 4 ∷ record-block 8195 11 ∷ ask 8205
+          clear ∷ record-block 4104 20 ∷ written 4108 6 ∷ ask 4113 ∷ ask 4124 ∷ record-block 4128 4 ∷ record-block 4136 4 ∷ record-block 8195 11 ∷ ask 8205
           ∷ valid 8200 7 8195 ∷ valid 8200 6 8195 ∷ next 4105 ∷ audit ∷ free 4105 ∷ free 4104 ∷ [];
       answers =
-          done ∷ done ∷ answer 0 4104 20 9 1 ∷ refusal 7 ∷ refusal 6 ∷ done ∷ done ∷ answer 0 8195 11 10 0 ∷ answer 0 0 0 0 0 ∷ answer 0 1 0 0 0
+          done ∷ done ∷ done ∷ answer 0 4104 20 9 1 ∷ refusal 7 ∷ refusal 6 ∷ done ∷ done ∷ answer 0 8195 11 10 0 ∷ answer 0 0 0 0 0 ∷ answer 0 1 0 0 0
           ∷ answer 0 4136 4 0 0 ∷ answer 0 2 1 35 6 ∷ refusal 7 ∷ done ∷ [];
       heap = (0, []);
       primary = (0, []);
@@ -99,7 +118,39 @@ table =
     }
     ∷ []
 
--- codes (1, 0) = 1, (5, 2) = 13, (8, 7) = 36; a heap block of 8 takes one segment, of 9 two
-unfoldable pub smallHold : Bool
-smallHold =
-    eqb (shortCode 1 0) 1 && eqb (shortCode 5 2) 13 && eqb (shortCode 8 7) 36 && eqb (segments 8 8) 1 && eqb (segments 8 9) 2
+-- ---- what follows from arguments and map, at the edges: shared by the plain list and the shadows, and so decided by reading and by these
+
+unfoldable pub edges : List Sample
+edges =
+    -- a length of 0 is 3, inside and outside the areas
+    one (record-block 0 0) (refusal 3)
+    ∷ one (written 0 0) (refusal 3)
+    ∷ one (valid 0 0 0) (refusal 3)
+    ∷ one (initialised 0 0) (refusal 3)
+    -- a block that passes the end, by whole numbers
+    ∷ one (record-block 0 1) (refusal 4)
+    ∷ one (record-block 8192 4294967295) (refusal 4)
+    ∷ one (record-block 8216 4294959104) (refusal 4)
+    ∷ one (record-block 4104 4294963192) (refusal 4)
+    -- a heap block fits by its bytes: 5 where they fit, 4 where they, or the header, do not
+    ∷ one (record-block 4156 4) (refusal 5)
+    ∷ one (record-block 4157 4) (refusal 4)
+    ∷ one (record-block 4100 4) (refusal 4)
+    ∷ one (record-block 4103 1) (refusal 4)
+    -- outside both areas: 4 for free, written and ask, no block for valid and initialised
+    ∷ one (free 0) (refusal 4)
+    ∷ one (written 4160 1) (refusal 4)
+    ∷ one (ask 8224) (refusal 4)
+    ∷ one (valid 0 1 0) (answer 0 0 0 0 0)
+    ∷ one (initialised 4294967295 4294967295) (answer 0 0 0 0 0)
+    -- inside an area, nothing recorded
+    ∷ one (free 4104) (refusal 7)
+    ∷ one (written 8192 1) (refusal 7)
+    ∷ one (ask 4096) (refusal 7)
+    ∷ one (next 4294967295) (refusal 7)
+    ∷ one audit (answer 0 0 0 0 0)
+    ∷ []
+
+-- every sample holds
+abbrev pub SamplesHold : Type 0
+SamplesHold = (allHold table ≡ true) × (allHold edges ≡ true)

@@ -36,12 +36,12 @@ listAfter (initialised a n) bs = bs
 listAfter (next a) bs = bs
 listAfter audit bs = bs
 
--- base, length, offset, written
+-- base, length, offset, written. Without a block the call is refused, and this is not asked
 abbrev pub askOf : ℕ → Option Block → Answer
 askOf a none = done
 askOf a (some b) = answer 0 (b .base) (len b) (a - b .base) (bit (isWritten b a))
 
--- base, length
+-- base, length. Without a block the call is refused, and this is not asked
 abbrev pub nextOf : Option Block → Answer
 nextOf none = done
 nextOf (some b) = answer 0 (b .base) (len b) 0 0

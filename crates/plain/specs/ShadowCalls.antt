@@ -66,6 +66,7 @@ abbrev pub isNone : Option Tally → Bool
 isNone none = true
 isNone (some t) = false
 
+-- what an accepted call answers. Where there is no block, or damage, the call is refused, and this is not asked
 abbrev pub askAnswer : Reading → Answer
 askAnswer nothing = done
 askAnswer (block b l o m) = answer 0 b l o m
@@ -88,7 +89,8 @@ module _ {S : Type 0} (R : Rules) (O : Ops S) where
   abbrev pub search : S → ℕ → Reading
   search s a = climb (reading s) a (R .top - a)
 
-  -- the refusals that the shadows decide: 6 where the place is not zero, 8 where a reading is damaged, 7 where there is no such block
+  -- the refusals that the shadows decide: 6 where the place is not zero, 8 where a reading is damaged, 7 where there is no such block. 8 is
+  -- tried before 7, which is never given where 8 holds
   abbrev pub byShadows : Call → S → List Refusal
   byShadows clear s = []
   byShadows (record-block b l) s = (6, not (O .vacant s b l)) ∷ []
