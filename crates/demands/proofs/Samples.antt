@@ -1,6 +1,5 @@
 -- The marked samples hold: computed over the whole table. Assumes nothing.
-use mathlib.Core.Path.{_≡_, refl}
-use mathlib.Core.Bool.{true}
+use mathlib.Core.Path.{refl}
 use Rattle.number.specs.Little.{byteOf, word}
 use Rattle.number.specs.Bits.{bitOf, withBit, ofBits, ones}
 use Rattle.number.specs.Parts.{tab, zeros, over}

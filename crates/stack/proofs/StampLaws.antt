@@ -71,13 +71,8 @@ module _ (L o j : ℕ) (long : 9 ≤ L) (eights : o % 8 ≡ 0) (whole : o + 8 �
   unfolding secondaryOf
   piece-secondary = rw (lt-leb L 8 long, piece-at, add-sub-cancel-left o j)
 
--- past the eighth byte of a piece its secondary bytes are zero
-pub piece-rest : (L o j : ℕ) → 8 ≤ j → pieceByte L o j ≡ 0
-unfolding pieceByte
-piece-rest L o j h = rw (le-ltb j 4 (omega arith), le-ltb j 8 h)
-
 -- the two numbers of a piece make its first eight secondary bytes
-pub two-numbers : (S : List ℕ) (q L o : ℕ) → over (q + 4) 4 (λ x. byteOf o (x - (q + 4))) (over q 4 (λ x. byteOf L (x - q)) S) ≡ over q 8 (λ x. pieceByte L o (x - q)) S
+two-numbers : (S : List ℕ) (q L o : ℕ) → over (q + 4) 4 (λ x. byteOf o (x - (q + 4))) (over q 4 (λ x. byteOf L (x - q)) S) ≡ over q 8 (λ x. pieceByte L o (x - q)) S
 unfolding pieceByte
 two-numbers S q L o =
     rw (over-ext q 4 (λ x. byteOf L (x - q)) (λ x. pieceByte L o (x - q)) S (λ x u v. rw (lt-ltb (x - q) 4 (omega arith))))
@@ -99,17 +94,30 @@ module _ (b L o n : ℕ) (long : 9 ≤ L) (eights : o % 8 ≡ 0) (whole : o + 8 
       (λ q x y. let e : o + (q - (b + o)) ≡ q - b = omega arith in
       sym (rw e at (piece-primary L o (q - (b + o)) long eights whole (near (q - (b + o)) (omega arith) last) (omega arith)))))
 
-  piece-byte : (q : ℕ) → b + o ≤ q → q < b + o + n → pieceByte L o (q - (b + o)) ≡ secondaryOf L (q - b)
-  piece-byte q x y =
+-- the two numbers of a piece right after those of the pieces before it
+module _ (b L o : ℕ) (long : 9 ≤ L) (eights : o % 8 ≡ 0) (whole : o + 8 ≤ L) where
+  number-bytes : (q : ℕ) → b + o ≤ q → q < b + o + 8 → pieceByte L o (q - (b + o)) ≡ secondaryOf L (q - b)
+  number-bytes q x y =
       let e : o + (q - (b + o)) ≡ q - b = omega arith in
-      sym (rw e at (piece-secondary L o (q - (b + o)) long eights whole (near (q - (b + o)) (omega arith) last) (omega arith)))
+      sym (rw e at (piece-secondary L o (q - (b + o)) long eights whole (inl (omega arith)) (omega arith)))
 
-  -- the eight bytes are written, the others stand as zeros
-  pub next-secondary : 8 ≤ n → (S T U : List ℕ) → zeros (at S) b L ≡ true → T ≡ over b o (λ q. secondaryOf L (q - b)) S
-      → U ≡ over (b + o) 8 (λ q. pieceByte L o (q - (b + o))) T → U ≡ over b (o + n) (λ q. secondaryOf L (q - b)) S
-  next-secondary h S T U z before after =
-      let e : o + 8 + (n - 8) ≡ o + n = omega arith in
-      after
-      ∙ rw before (over-next b o 8 (λ q. secondaryOf L (q - b)) (λ q. pieceByte L o (q - (b + o))) S (λ q x y. piece-byte q x (omega arith)))
-      ∙ rw e at (over-tail b (o + 8) (n - 8) (λ q. secondaryOf L (q - b)) S
-      (λ q k x y. was-zero S b L q z (omega arith) (omega arith) ∙ sym (piece-rest L o (q - (b + o)) (omega arith)) ∙ piece-byte q (omega arith) (omega arith)))
+  pub next-secondary : (S T U W : List ℕ) → T ≡ over b o (λ q. secondaryOf L (q - b)) S → U ≡ over (b + o) 4 (λ x. byteOf L (x - (b + o))) T
+      → W ≡ over (b + o + 4) 4 (λ x. byteOf o (x - (b + o + 4))) U → W ≡ over b (o + 8) (λ q. secondaryOf L (q - b)) S
+  next-secondary S T U W before first second =
+      second
+      ∙ rw (first, two-numbers T (b + o) L o, before)
+      (over-next b o 8 (λ q. secondaryOf L (q - b)) (λ q. pieceByte L o (q - (b + o))) S number-bytes)
+
+-- past the last piece's numbers the secondary bytes are zero, as they were
+pub last-secondary : (b L o : ℕ) → 9 ≤ L → o % 8 ≡ 0 → o ≤ L → L < o + 8 → (S T : List ℕ) → zeros (at S) b L ≡ true
+    → T ≡ over b o (λ q. secondaryOf L (q - b)) S → T ≡ over b L (λ q. secondaryOf L (q - b)) S
+unfolding secondaryOf pieceOf pieceByte
+last-secondary b L o long eights within short S T z before =
+    let e : o + (L - o) ≡ L = omega arith in
+    before
+    ∙ rw e at (over-tail b o (L - o) (λ q. secondaryOf L (q - b)) S
+    (λ q k x y. was-zero S b L q z (omega arith) (omega arith)
+    ∙ sym (zero-byte (q - b) (omega arith) (omega arith))))
+  where
+    zero-byte : (i : ℕ) → o ≤ i → i < L → secondaryOf L i ≡ 0
+    zero-byte i x y = rw (lt-leb L 8 long, le-ltb (i - 8 * min (i / 8) (L / 8 - 1)) 4 (omega arith), le-ltb (i - 8 * min (i / 8) (L / 8 - 1)) 8 (omega arith))

@@ -22,14 +22,14 @@ use map::Position;
 use plain::Reading;
 pub use table::short_length;
 
-// The reading of a position: the code is taken by shift, the written bit by mask.
+// The reading of a position: bit 1 is to be zero, the code is taken by shift, the written bit by mask.
 pub fn read(primary: &[u8], secondary: &[u8], p: Position) -> Reading
     requires { ⌜ (p .0 < length (now primary)) × (length (now primary) ≡ length (now secondary)) × (length (now primary) ≤ 65536) ⌝ }
     ensures { λ r. ⌜ readingOf r ≡ stackReading (length (now (primary .entry))) (at (now (primary .entry))) (at (now (secondary .entry))) (p .0) ⌝ }
 {
     let q = p.0;
     let byte = primary[q];
-    if reading::spoiled(byte) {
+    if byte & 2 != 0 {
         return Reading::Damaged;
     }
     reading::read_code(secondary, q, byte >> 2, byte & 1)
@@ -45,18 +45,15 @@ pub fn vacant(primary: &[u8], secondary: &[u8], base: Position, len: u32) -> boo
     number::zero_at(primary, q, n) & number::zero_at(secondary, q, n)
 }
 
-// Records a block, nothing written, in a place that is vacant: the secondary bytes of a short block stay as they are.
+// Records a block, nothing written, in a place that is vacant: secondary bytes that are to be zero stay as they are.
 pub fn stamp(primary: &mut [u8], secondary: &mut [u8], base: Position, len: u32)
     requires { ⌜ (base .0 + len ≤ length (now primary)) × (length (now primary) ≡ length (now secondary)) × (length (now primary) ≤ 65536) × (1 ≤ len)
         × (stackVacant (now primary, now secondary) (base .0) len ≡ true) ⌝ }
     ensures { λ _. ⌜ _≡_ {A = StackShadows} (now (primary .exit), now (secondary .exit)) (stackStamp (now (primary .entry), now (secondary .entry)) (fresh (base .0) len)) ⌝ }
 {
     let q = base.0;
-    if len <= 8 {
-        stamping::stamp_short(primary, q, len);
-        return;
-    }
-    stamping::stamp_long(primary, secondary, q, len);
+    stamping::stamp_primary(primary, q, len);
+    stamping::stamp_secondary(secondary, q, len);
 }
 
 // Zeros in the shadow bytes of a place.

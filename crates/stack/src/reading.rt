@@ -1,8 +1,7 @@
 // The steps of a reading, each a clause of the layout's.
 ghost use mathlib.Core.Path.{_≡_};
-ghost use Prim.Native.Nat.{_+_, _/_, _%_, _<_, _≤_};
+ghost use Prim.Native.Nat.{_<_, _≤_};
 ghost use lib.ListN.{length};
-ghost use lib.Dec.{eqb};
 ghost use Rattle.number.specs.Parts.{at};
 ghost use Rattle.plain.specs.Answers.{readingOf};
 ghost use Rattle.stack_layout.specs.Reading.{fitted, badPiece, longReading, codeReading};
@@ -10,13 +9,6 @@ use crate::table::short_length;
 use crate::table::short_offset;
 use map::Position;
 use plain::Reading;
-
-// Bit 1 of a primary byte, which no code sets.
-pub fn spoiled(byte: u8) -> bool
-    ensures { λ r. ⌜ r ≡ eqb (byte / 2 % 2) 1 ⌝ }
-{
-    byte & 2 != 0
-}
 
 // Position p is byte i of a block of length len: damaged where that block does not fit the area.
 pub fn fit(size: usize, p: usize, len: u32, i: u32, written: u8) -> Reading

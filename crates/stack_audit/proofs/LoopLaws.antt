@@ -6,15 +6,13 @@ use mathlib.Core.Option.{Option, none, some}
 use Prim.Native.Nat.{ℕ, suc, _+_, _-_, _%_, _≤_, _<_, max}
 use native.Mathlib.Omega.{arith}
 use native.Mathlib.Numerals.{add-one}
-use native.Mathlib.Nat.{add-zero}
 use lib.ListN.{length}
 use lib.Dec.{leb, eqb}
 use borrow.Author.Tests.{ne-eqb, eqb-true, leb-false}
 use Rattle.number.specs.Bits.{ones}
 use Rattle.number.specs.Parts.{at}
 use Rattle.number.proofs.TestLaws.{Test, is-true, is-false, test}
-use Rattle.plain.specs.Block.{len}
-use Rattle.plain.specs.Blocks.{total, live, written}
+use Rattle.plain.specs.Blocks.{total}
 use Rattle.plain.specs.Reading.{Tally, tally}
 use Rattle.plain.specs.Areas.{stackRules}
 use Rattle.plain.specs.Found.{totals}
@@ -43,26 +41,12 @@ offset-in size pr se q i L K h e = go (test (eqb L 0))
 
 pub keeps : (size q K m : ℕ) (w v : Walk) → q < size → Kept size q w → w .i < max K 1 → m < 2 → v ≡ after w K m → Kept size (q + 1) v
 unfolding after
-keeps size q K m w v h k f g e = rw e (go (test (eqb K 0)) (test (leb K (w .i + 1))) (eqb (w .len) 0))
+keeps size q K m w v h k f g e = rw e (go (test (eqb K 0)) (test (leb K (w .i + 1))))
   where
-    one : (t : Bool) → cond t 1 0 ≤ 1
-    one true = omega arith
-    one false = omega arith
-
-    go : Test (eqb K 0) → Test (leb K (w .i + 1)) → (t : Bool)
-        → Kept size (q + 1)
-        (cond (eqb K 0) w
-        (record {
-          len = cond (leb K (w .i + 1)) 0 K;
-          i = cond (leb K (w .i + 1)) 0 (w .i + 1);
-          blocks = w .blocks + cond t 1 0;
-          live = w .live + 1;
-          written = w .written + m;
-        }))
-    go (is-true a) b t = rw a (record { within = omega arith; offset = omega arith; few = omega arith; lives = omega arith; marks = omega arith })
-    go (is-false a) (is-true b) t = let o = one t in rw (a, b) (record { within = omega arith; offset = omega arith; few = omega arith; lives = omega arith; marks = omega arith })
-    go (is-false a) (is-false b) t =
-        let o = one t in
+    go : Test (eqb K 0) → Test (leb K (w .i + 1)) → Kept size (q + 1) (after w K m)
+    go (is-true a) b = rw a (record { within = omega arith; offset = omega arith; few = omega arith; lives = omega arith; marks = omega arith })
+    go (is-false a) (is-true b) = rw (a, b) (record { within = omega arith; offset = omega arith; few = omega arith; lives = omega arith; marks = omega arith })
+    go (is-false a) (is-false b) =
         let x = leb-false K (w .i + 1) b in
         rw (a, b) (record { within = omega arith; offset = omega arith; few = omega arith; lives = omega arith; marks = omega arith })
 
@@ -95,7 +79,8 @@ module _ (P S : List ℕ) where
       let n : length P - q ≡ 0 = omega arith in
       let u : w .live + (0 + 0) ≡ w .live = omega arith in
       let v : w .written + (0 + 0) ≡ w .written = omega arith in
-      rw (n, z, add-zero (w .blocks), u, v)
+      let c : w .blocks + 0 + 0 ≡ w .blocks = omega arith in
+      rw (n, z, c, u, v)
 
   pub rest-open : (q : ℕ) (w : Walk) → length P ≤ q → (w .len ≡ 0 → ⊥) → rest q w ≡ none
   unfolding rest ahead stackWalk beside

@@ -1,5 +1,5 @@
 -- A turn of the audit's loop is a step of the layout's walk. Assumes nothing.
-use mathlib.Core.Path.{_≡_, refl, sym, ap}
+use mathlib.Core.Path.{_≡_, refl, sym, ap, _∙_}
 use mathlib.Core.Logic.{_⊎_, inl, inr}
 use mathlib.Core.Bool.{Bool, true, false, cond, _&&_}
 use mathlib.Core.List.{[], _∷_}
@@ -14,8 +14,6 @@ use Rattle.number.specs.Bits.{bit}
 use Rattle.number.specs.Parts.{at}
 use Rattle.number.proofs.TestLaws.{Test, is-true, is-false, test, and-true, and-false-r, false-of}
 use Rattle.number.proofs.BitLaws.{bit-test}
-use Rattle.plain.specs.Block.{len}
-use Rattle.plain.specs.Blocks.{live, written}
 use Rattle.plain.specs.Reading.{Tally}
 use Rattle.plain.specs.Areas.{stackRules}
 use Rattle.plain.specs.Found.{Found, bad, goesOn, begins, totals}
@@ -45,6 +43,11 @@ open-cases size q H T clear fit idle stop on h (inr t) = rw (t .0, t .1) (go (le
     go : (f : Bool) → (let K = cond {A = ℕ} f 0 0 in cond clear idle stop ≡ cond (cond (eqb K 0) clear (fit K)) (cond (eqb K 0) idle (on K)) stop)
     go true = refl
     go false = refl
+
+-- a block of length K that goes on is counted past this byte or later, but once
+counted : (b K : ℕ) → eqb K 0 ≡ false → (t : Bool) → b + cond t 1 0 + cond (eqb (cond t 0 K) 0) 0 1 ≡ b + 1
+counted b K k true = omega arith
+counted b K k false = rw k (omega arith)
 
 module _ (size : ℕ) (pr se : ℕ → ℕ) where
   -- where no block goes on the offset is of no account, and no marks are found
@@ -119,9 +122,9 @@ module _ (size : ℕ) (pr se : ℕ → ℕ) where
   unfolding stackWalk stands isByte
   on-step n q L i h = rw (ne-eqb L 0 h)
 
-  -- what is ahead of a walk that has n bytes left, from q on
+  -- what is ahead of a walk that has n bytes left, from q on; the block that goes on there was not counted yet
   unfoldable pub ahead : (n q : ℕ) → Walk → Option Tally
-  ahead n q w = beside (w .blocks) (w .live) (w .written) (stackWalk size pr se n q (w .len) (w .i))
+  ahead n q w = beside (w .blocks + cond (eqb (w .len) 0) 0 1) (w .live) (w .written) (stackWalk size pr se n q (w .len) (w .i))
 
   -- past a block's last byte the code counts from 0 again
   reset : (n q K i : ℕ) → stackWalk size pr se n q (cond (leb K (i + 1)) 0 K) (cond (leb K (i + 1)) 0 (i + 1)) ≡ stackWalk size pr se n q (cond (leb K (suc i)) 0 K) (suc i)
@@ -131,40 +134,48 @@ module _ (size : ℕ) (pr se : ℕ → ℕ) where
       go true = sym (idle n q (suc i))
       go false = refl
 
+  -- what is ahead past byte i of a block of length K at q, however the walk goes on
+  past : (n q : ℕ) → Walk → (K : ℕ) → Option Tally
+  past n q w K = beside (w .blocks + 1) (w .live + 1) (w .written + pr q % 2) (stackWalk size pr se n (suc q) (cond (leb K (suc (w .i))) 0 K) (suc (w .i)))
+
+  past-after : (n q : ℕ) (w : Walk) (K : ℕ) → eqb K 0 ≡ false → ahead n (suc q) (after w K (pr q % 2)) ≡ past n q w K
+  unfolding ahead after past
+  past-after n q w K k = rw (k, counted (w .blocks) K k (leb K (w .i + 1))) (ap (beside (w .blocks + 1) (w .live + 1) (w .written + pr q % 2)) (reset n (suc q) K (w .i)))
+
+  low-bit : (q : ℕ) → bit (eqb (pr q % 2) 1) ≡ pr q % 2
+  low-bit q = bit-test (pr q % 2) (mod-lt (pr q) (lit< tt))
+
+  -- a turn where no block goes on
+  turn-open : (n q : ℕ) (w : Walk) (K : ℕ) → w .len ≡ 0 → w .i ≡ 0 → K ≡ current size pr se q 0 → Test (stands (pr q) (se q) K (w .i)) → Test (eqb K 0)
+      → ahead (suc n) q w ≡ cond (stands (pr q) (se q) K (w .i)) (ahead n (suc q) (after w K (pr q % 2))) none
+  unfolding ahead after past beside
+  turn-open n q w K z y x (is-false s) k =
+      let s′ : stands (pr q) (se q) K 0 ≡ false = rw y at s in
+      rw (z, y, open-step n q 0, ← x, s′)
+  turn-open n q w K z y x (is-true s) (is-true k) =
+      let s′ : stands (pr q) (se q) K 0 ≡ true = rw y at s in
+      rw (k, z, y, open-step n q 0, ← x, s′, k)
+  turn-open n q w K z y x (is-true s) (is-false k) =
+      let s′ : stands (pr q) (se q) K 0 ≡ true = rw y at s in
+      let l : ahead (suc n) q w ≡ past n q w K = rw (z, y, open-step n q 0, ← x, s′, k, beside-begins, low-bit q, add-zero) in
+      rw s (l ∙ sym (past-after n q w K k))
+
+  -- a turn where one does
+  turn-on : (n q : ℕ) (w : Walk) (K : ℕ) → eqb (w .len) 0 ≡ false → K ≡ w .len → Test (stands (pr q) (se q) K (w .i))
+      → ahead (suc n) q w ≡ cond (stands (pr q) (se q) K (w .i)) (ahead n (suc q) (after w K (pr q % 2))) none
+  unfolding ahead after past beside
+  turn-on n q w K a x (is-false s) = rw (a, on-step n q (w .len) (w .i) (eqb-false (w .len) 0 a), ← x, s)
+  turn-on n q w K a x (is-true s) =
+      let l : ahead (suc n) q w ≡ past n q w K = rw (a, on-step n q (w .len) (w .i) (eqb-false (w .len) 0 a), ← x, s, beside-on, low-bit q) in
+      rw s (l ∙ sym (past-after n q w K (rw (← x) at a)))
+
   -- a turn of the loop
   pub turn : (n q : ℕ) (w : Walk) (K : ℕ) → w .i < max (w .len) 1 → K ≡ current size pr se q (w .len)
       → ahead (suc n) q w ≡ cond (stands (pr q) (se q) K (w .i)) (ahead n (suc q) (after w K (pr q % 2))) none
-  unfolding ahead after beside current
+  unfolding current
   turn n q w K h e = go (test (eqb (w .len) 0)) (test (stands (pr q) (se q) K (w .i))) (test (eqb K 0))
     where
-      m : bit (eqb (pr q % 2) 1) ≡ pr q % 2
-      m = bit-test (pr q % 2) (mod-lt (pr q) (lit< tt))
-
       go : Test (eqb (w .len) 0) → Test (stands (pr q) (se q) K (w .i)) → Test (eqb K 0)
           → ahead (suc n) q w ≡ cond (stands (pr q) (se q) K (w .i)) (ahead n (suc q) (after w K (pr q % 2))) none
-      go (is-true a) (is-false s) k =
-          let z : w .len ≡ 0 = eqb-true (w .len) 0 a in
-          let y : w .i ≡ 0 = omega arith in
-          let x : K ≡ current size pr se q 0 = rw z at e in
-          let s′ : stands (pr q) (se q) K 0 ≡ false = rw y at s in
-          rw (z, y, open-step n q 0, ← x, s′)
-      go (is-true a) (is-true s) (is-true k) =
-          let z : w .len ≡ 0 = eqb-true (w .len) 0 a in
-          let y : w .i ≡ 0 = omega arith in
-          let x : K ≡ current size pr se q 0 = rw z at e in
-          let s′ : stands (pr q) (se q) K 0 ≡ true = rw y at s in
-          rw (k, z, y, open-step n q 0, ← x, s′, k)
-      go (is-true a) (is-true s) (is-false k) =
-          let z : w .len ≡ 0 = eqb-true (w .len) 0 a in
-          let y : w .i ≡ 0 = omega arith in
-          let x : K ≡ current size pr se q 0 = rw z at e in
-          let s′ : stands (pr q) (se q) K 0 ≡ true = rw y at s in
-          rw (k, z, y, open-step n q 0, ← x, s′, k, beside-begins, m) (ap (beside (w .blocks + 1) (w .live + 1) (w .written + pr q % 2)) (sym (reset n (suc q) K 0)))
-      go (is-false a) (is-false s) k =
-          let x : K ≡ w .len = rw a at e in
-          rw (on-step n q (w .len) (w .i) (eqb-false (w .len) 0 a), ← x, s)
-      go (is-false a) (is-true s) k =
-          let x : K ≡ w .len = rw a at e in
-          let k′ : eqb K 0 ≡ false = rw (← x) at a in
-          rw (on-step n q (w .len) (w .i) (eqb-false (w .len) 0 a), ← x, s, k′, beside-on, m, add-zero)
-          (ap (beside (w .blocks) (w .live + 1) (w .written + pr q % 2)) (sym (reset n (suc q) K (w .i))))
+      go (is-true a) s k = let z : w .len ≡ 0 = eqb-true (w .len) 0 a in turn-open n q w K z (omega arith) (rw z at e) s k
+      go (is-false a) s k = turn-on n q w K a (rw a at e) s

@@ -1,9 +1,7 @@
 // The audit's walk, byte by byte.
 ghost use mathlib.Core.Path.{_≡_};
-ghost use mathlib.Core.Bool.{cond};
 ghost use Prim.Native.Nat.{_+_, _<_, _≤_, max};
 ghost use lib.ListN.{length};
-ghost use lib.Dec.{eqb};
 ghost use Rattle.number.specs.Parts.{at};
 ghost use Rattle.stack_audit.specs.Turn as turn;
 use crate::coding::code_at;
@@ -63,17 +61,7 @@ pub fn stands(x: u8, y: u8, k: u32, i: u32) -> bool
     (x == ((code_at(k, i) << 2) | (x & 1))) & (y == secondary_at(k, i))
 }
 
-// A block counts where none went on.
-pub fn begun(len: u32) -> u32
-    ensures { λ r. ⌜ (r ≡ cond (eqb len 0) 1 0) × (r ≤ 1) ⌝ }
-{
-    if len == 0 {
-        return 1;
-    }
-    0
-}
-
-// The walk past a byte of a block of length k, or of none where k is 0.
+// The walk past a byte of a block of length k, or of none where k is 0. A block counts where it ends.
 pub fn after(w: Walk, k: u32, written: u8) -> Walk
     requires { ⌜ (w .i < max k 1) × (w .blocks < 65536) × (w .live < 65536) × (w .written < 65536) ⌝ }
     ensures { λ r. ⌜ r ≡ turn.after w k written ⌝ }
@@ -82,14 +70,13 @@ pub fn after(w: Walk, k: u32, written: u8) -> Walk
         return w;
     }
     let i = w.i + 1;
-    let blocks = w.blocks + begun(w.len);
     let live = w.live + 1;
     let marks = w.written + number::wide(written);
     if k <= i {
         return Walk {
             len: 0,
             i: 0,
-            blocks: blocks,
+            blocks: w.blocks + 1,
             live: live,
             written: marks,
         };
@@ -97,7 +84,7 @@ pub fn after(w: Walk, k: u32, written: u8) -> Walk
     Walk {
         len: k,
         i: i,
-        blocks: blocks,
+        blocks: w.blocks,
         live: live,
         written: marks,
     }

@@ -1,4 +1,6 @@
 -- `reading::fit` meets its contract. Assumes nothing.
+use Prim.Native.Nat.{_+_}
+use native.Mathlib.Omega.{arith}
 use borrow.Author.Tests.{lt-ltb, le-ltb}
 use borrow.Author.Needs.{needs}
 use Rattle.stack_layout.specs.Reading.{fitted}
@@ -7,7 +9,9 @@ use Rattle.stack.proofs.reading.fit.Tie as tie
 
 returns : tie.Need-returns
 unfolding fitted
-returns c = rw (lt-ltb _ _ (c .if1 .taken))
+returns c =
+    let s = c .before .args in
+    rw (lt-ltb (s .p) (s .i) (omega arith))
 
 add-if2 : tie.Need-add-if2
 add-if2 c = search needs
@@ -17,11 +21,15 @@ add-if2-2 c = search needs
 
 returns-2 : tie.Need-returns-2
 unfolding fitted
-returns-2 c = rw (le-ltb _ _ (c .before .if1 .left), lt-ltb _ _ (c .if2 .taken))
+returns-2 c =
+    let s = c .before .before .args in
+    rw (le-ltb (s .p) (s .i) (omega arith), lt-ltb (s .size + s .i) (s .p + s .len) (omega arith))
 
 returns-3 : tie.Need-returns-3
 unfolding fitted
-returns-3 c = rw (le-ltb _ _ (c .before .if1 .left), le-ltb _ _ (c .if2 .left))
+returns-3 c =
+    let s = c .before .before .args in
+    rw (le-ltb (s .p) (s .i) (omega arith), le-ltb (s .size + s .i) (s .p + s .len) (omega arith))
 
 pub fit-spec : {M : Type 1} → statement M
 fit-spec = tie.close (tie.spec returns add-if2 add-if2-2 returns-2 returns-3)

@@ -1,6 +1,9 @@
 -- `reading::read_long` meets its contract. Assumes nothing.
 use mathlib.Core.Path.{sym, _∙_}
+use Prim.Native.Nat.{_+_}
 use native.Mathlib.Omega.{arith}
+use denote.Ref.{now}
+use lib.ListN.{length}
 use borrow.Author.Tests.{lt-ltb, le-ltb}
 use borrow.Author.Needs.{needs}
 use Rattle.stack_layout.specs.Reading.{longReading}
@@ -10,7 +13,9 @@ use Rattle.stack.proofs.reading.read_long.Tie as tie
 
 returns : tie.Need-returns
 unfolding longReading
-returns c = rw (lt-ltb _ _ (c .if1 .taken))
+returns c =
+    let s = c .before .before .args in
+    rw (lt-ltb (s .p) (s .j) (omega arith))
 
 add-if2 : tie.Need-add-if2
 add-if2 c = search needs
@@ -20,7 +25,9 @@ add-if2-2 c = search needs
 
 returns-2 : tie.Need-returns-2
 unfolding longReading
-returns-2 c = rw (le-ltb _ _ (c .before .if1 .left), lt-ltb _ _ (c .if2 .taken))
+returns-2 c =
+    let s = c .before .before .before .args in
+    rw (le-ltb (s .p) (s .j) (omega arith), lt-ltb (length (now (s .secondary)) + s .j) (s .p + 8) (omega arith))
 
 number-at-requires : tie.Need-number-at-requires
 number-at-requires c κs = search needs
@@ -42,18 +49,24 @@ bad-piece-requires c κs = search needs
 
 returns-3 : tie.Need-returns-3
 unfolding longReading
-returns-3 c = rw (le-ltb _ _ (c .before .before .before .before .before .if1 .left), le-ltb _ _ (c .before .before .before .before .if2 .left), ← (c .before .before .before .number-at .ensures), ← (c .before .before .number-at2 .ensures), ← (c .before .bad-piece .ensures), c .if3 .taken)
+returns-3 c =
+    let s = c .before .before .before .before .before .before .before .args in
+    rw (le-ltb (s .p) (s .j) (omega arith), le-ltb (length (now (s .secondary)) + s .j) (s .p + 8) (omega arith), ← (c .before .before .before .number-at .ensures), ← (c .before .before .number-at2 .ensures), ← (c .before .bad-piece .ensures), c .if3 .taken)
 
 add-fit : tie.Need-add-fit
 add-fit c =
-    omega (arith, piece-within (c .before .before .before .number-at .result) (c .before .before .number-at2 .result) (c .before .before .before .before .before .before .before .args .j) (sym (c .before .bad-piece .ensures) ∙ c .if3 .left))
+    let j = c .before .before .before .before .before .before .before .args .j in
+    omega (arith, piece-within (c .before .before .before .number-at .result) (c .before .before .number-at2 .result) j (sym (c .before .bad-piece .ensures) ∙ c .if3 .left))
 
 fit-requires : tie.Need-fit-requires
 fit-requires c κs = search needs
 
 returns-4 : tie.Need-returns-4
 unfolding longReading
-returns-4 c = rw (le-ltb _ _ (c .before .before .before .before .before .before .if1 .left), le-ltb _ _ (c .before .before .before .before .before .if2 .left), ← (c .before .before .before .before .number-at .ensures), ← (c .before .before .before .number-at2 .ensures), ← (c .before .before .bad-piece .ensures), c .before .if3 .left) (c .fit .ensures)
+returns-4 c =
+    let s = c .before .before .before .before .before .before .before .before .args in
+    rw (le-ltb (s .p) (s .j) (omega arith), le-ltb (length (now (s .secondary)) + s .j) (s .p + 8) (omega arith), ← (c .before .before .before .before .number-at .ensures), ← (c .before .before .before .number-at2 .ensures), ← (c .before .before .bad-piece .ensures), c .before .if3 .left)
+    (c .fit .ensures)
 
 pub read-long-spec : {M : Type 1} → statement M
 read-long-spec =

@@ -1,0 +1,193 @@
+-- Laws of decimal text, of a line's length, and of bytes written one after another. Assumes nothing.
+use mathlib.Core.Path.{_≡_, refl, sym, _∙_}
+use mathlib.Core.List.{List, [], _∷_, _++_, append-assoc, append-nil}
+use mathlib.Core.Logic.{_≢_, _⊎_, inl, inr}
+use Prim.Native.Nat.{ℕ, zero, suc, _+_, _*_, _/_, _%_, _^_, _≤_, _<_}
+use native.Mathlib.Omega.{arith}
+use native.Mathlib.Nat.{add-zero, zero-add, add-suc, suc-add}
+use lib.ListN.{length, take, drop, set, length-append, length-take}
+use lib.Seq.{sets, sets-eq}
+use lib.Dec.{ltb, eqb}
+use borrow.Author.Tests.{lt-ltb, le-ltb, ltb-true, ltb-false, eqb-false, ne-eqb}
+use Rattle.number.proofs.TestLaws.{Test, is-true, is-false, test}
+use Rattle.plain.specs.Call.{Answer, answer, number}
+use Rattle.calls_format.specs.Lines.{digits, decimal, spaced, answerFields, line}
+use Rattle.calls_format.specs.Writing.{Wrote, fieldsTold}
+
+-- ---- bytes written one after another
+
+sets-append : (xs ys l : List ℕ) (i : ℕ) → sets (sets l i xs) (i + length xs) ys ≡ sets l i (xs ++ ys)
+sets-append [] ys l i = rw add-zero
+sets-append (x ∷ xs) ys l i = rw (add-suc i (length xs), ← suc-add i (length xs)) (sets-append xs ys (set l i x) (suc i))
+
+wrote-none : (p : ℕ) (l : List ℕ) → Wrote [] p p l l
+wrote-none p l = record { ends = sym (add-zero p); stores = refl }
+
+wrote-one : (x p : ℕ) (l : List ℕ) → Wrote (x ∷ []) p (p + 1) l (set l p x)
+wrote-one x p l = record { ends = refl; stores = refl }
+
+wrote-both : (xs ys : List ℕ) (p q r : ℕ) (l m n : List ℕ) → Wrote xs p q l m → Wrote ys q r m n → Wrote (xs ++ ys) p r l n
+wrote-both xs ys p q r l m n a b =
+    record {
+      ends = omega (arith, a .ends, b .ends, length-append xs ys);
+      stores = b .stores ∙ rw (a .stores, a .ends) (sets-append xs ys l p);
+    }
+
+-- from the first place on
+pub wrote-first : (xs : List ℕ) (r : ℕ) (l m : List ℕ) → Wrote xs 0 r l m → length xs ≤ length l → (r ≡ length xs) × (m ≡ xs ++ drop r l)
+wrote-first xs r l m w h =
+    let e : r ≡ length xs = omega (arith, w .ends) in
+    (e, w .stores ∙ sets-eq xs l 0 (omega arith) ∙ rw (e, zero-add))
+
+-- ---- decimal digits
+
+decimal-last : (v : ℕ) → v < 10 → decimal v ≡ (48 + v) ∷ []
+unfolding digits
+decimal-last v h = rw (lt-ltb v 10 h)
+
+digits-enough : (n v : ℕ) → v < 10 ^ suc n → digits (suc (suc n)) v ≡ digits (suc n) v
+unfolding digits
+digits-enough zero v h = rw (lt-ltb v 10 (omega arith))
+digits-enough (suc n) v h = rw (digits-enough n (v / 10) (omega arith))
+
+decimal-more : (v : ℕ) → 10 ≤ v → v < 10000000000 → decimal v ≡ decimal (v / 10) ++ ((48 + v % 10) ∷ [])
+unfolding digits
+decimal-more v h b = rw (le-ltb v 10 h, digits-enough 8 (v / 10) (omega arith))
+
+-- one digit; the digits of the tenth, and one more
+pub length-last : (v : ℕ) → v < 10 → length (decimal v) ≡ 1
+length-last v h = rw (decimal-last v h)
+
+pub length-more : (v : ℕ) → 10 ≤ v → v < 10000000000 → length (decimal v) ≡ length (decimal (v / 10)) + 1
+length-more v h b = rw (decimal-more v h b) (length-append (decimal (v / 10)) ((48 + v % 10) ∷ []))
+
+pub wrote-last : (v p : ℕ) (l : List ℕ) → v < 10 → Wrote (decimal v) p (p + 1) l (set l p (48 + v))
+wrote-last v p l h = rw (decimal-last v h) (wrote-one (48 + v) p l)
+
+pub wrote-more : (v p q : ℕ) (l m : List ℕ) → 10 ≤ v → v < 10000000000 → Wrote (decimal (v / 10)) p q l m
+    → Wrote (decimal v) p (q + 1) l (set m q (48 + v % 10))
+wrote-more v p q l m h b w =
+    rw (decimal-more v h b) (wrote-both (decimal (v / 10)) ((48 + v % 10) ∷ []) p q (q + 1) l m (set m q (48 + v % 10)) w (wrote-one (48 + v % 10) q m))
+
+digits-length : (n v : ℕ) → length (digits n v) ≤ n
+unfolding digits
+digits-length zero v = omega arith
+digits-length (suc n) v = go (test (ltb v 10)) (digits-length n (v / 10))
+  where
+    go : Test (ltb v 10) → length (digits n (v / 10)) ≤ n → length (digits (suc n) v) ≤ suc n
+    go (is-true t) h = rw t (omega arith)
+    go (is-false t) h = rw t (omega (arith, length-append (digits n (v / 10)) ((48 + v % 10) ∷ [])))
+
+decimal-length : (v : ℕ) → length (decimal v) ≤ 10
+decimal-length v = digits-length 10 v
+
+-- ---- numbers after spaces
+
+pub spaced-one : (v : ℕ) → spaced (v ∷ []) ≡ 32 ∷ decimal v
+unfolding spaced
+spaced-one v = rw (append-nil (decimal v))
+
+spaced-append : (xs ys : List ℕ) → spaced (xs ++ ys) ≡ spaced xs ++ spaced ys
+unfolding spaced
+spaced-append [] ys = refl
+spaced-append (x ∷ xs) ys = rw (spaced-append xs ys, append-assoc (decimal x) (spaced xs) (spaced ys))
+
+pub wrote-spaced : (v p r : ℕ) (l m : List ℕ) → Wrote (decimal v) (p + 1) r (set l p 32) m → Wrote (spaced (v ∷ [])) p r l m
+wrote-spaced v p r l m w = rw (spaced-one v) (wrote-both (32 ∷ []) (decimal v) p (p + 1) r l (set l p 32) m (wrote-one 32 p l) w)
+
+pub wrote-more-spaced : (vs ws : List ℕ) (p q r : ℕ) (l m n : List ℕ) → Wrote (spaced vs) p q l m → Wrote (spaced ws) q r m n
+    → Wrote (spaced (vs ++ ws)) p r l n
+wrote-more-spaced vs ws p q r l m n a b = rw (spaced-append vs ws) (wrote-both (spaced vs) (spaced ws) p q r l m n a b)
+
+pub length-spaced : (vs ws : List ℕ) → length (spaced (vs ++ ws)) ≡ length (spaced vs) + length (spaced ws)
+length-spaced vs ws = rw (spaced-append vs ws) (length-append (spaced vs) (spaced ws))
+
+spaced-length : (xs : List ℕ) → length (spaced xs) ≤ 11 * length xs
+unfolding spaced
+spaced-length [] = omega arith
+spaced-length (x ∷ xs) = omega (arith, length-append (decimal x) (spaced xs), decimal-length x, spaced-length xs)
+
+-- ---- the answer fields of each kind
+
+-- room for the fields is room for their parts
+pub room : (vs ws F : List ℕ) (p n : ℕ) → F ≡ vs ++ ws → p + length (spaced F) ≤ n → p + length (spaced vs) + length (spaced ws) ≤ n
+room vs ws F p n e h = omega (arith, length-spaced vs ws, rw e at h)
+
+pub wrote-told : (vs F : List ℕ) (p r : ℕ) (l m : List ℕ) → F ≡ vs → Wrote (spaced vs) p r l m → Wrote (spaced F) p r l m
+wrote-told vs F p r l m e w = rw e w
+
+pub wrote-no : (F : List ℕ) (p : ℕ) (l : List ℕ) → F ≡ [] → Wrote (spaced F) p p l l
+unfolding spaced
+wrote-no F p l e = rw e (wrote-none p l)
+
+module _ (k n a b c d : ℕ) where
+  pub told-refused : n ≢ 0 → fieldsTold k (answer n a b c d) ≡ []
+  told-refused h = rw (ne-eqb n 0 h)
+
+  pub told-four : n ≡ 0 → (k ≡ 5) ⊎ (k ≡ 9) → fieldsTold k (answer n a b c d) ≡ a ∷ b ∷ c ∷ d ∷ []
+  unfolding answerFields
+  told-four z (inl e) = rw (z, e)
+  told-four z (inr e) = rw (z, e)
+
+  pub told-one : n ≡ 0 → 6 ≤ k → k < 8 → fieldsTold k (answer n a b c d) ≡ a ∷ []
+  unfolding answerFields
+  told-one z h l = go (test (eqb k 6))
+    where
+      go : Test (eqb k 6) → fieldsTold k (answer n a b c d) ≡ a ∷ []
+      go (is-true t) = rw (z, ne-eqb k 5 (omega arith), t)
+      go (is-false t) = let e : k ≡ 7 = omega (arith, eqb-false k 6 t) in rw (z, e)
+
+  pub told-two : n ≡ 0 → k ≡ 8 → fieldsTold k (answer n a b c d) ≡ a ∷ b ∷ []
+  unfolding answerFields
+  told-two z e = rw (z, e)
+
+  pub told-no : n ≡ 0 → k ≢ 5 → k ≢ 6 → k ≢ 7 → k ≢ 8 → k ≢ 9 → fieldsTold k (answer n a b c d) ≡ []
+  unfolding answerFields
+  told-no z e f g h i = rw (z, ne-eqb k 5 e, ne-eqb k 6 f, ne-eqb k 7 g, ne-eqb k 8 h, ne-eqb k 9 i)
+
+-- ---- a line's length
+
+-- only kinds of two digits at most have answer fields
+two-digits : (k : ℕ) → k < 100 → length (decimal k) ≤ 2
+unfolding digits
+two-digits k h = go (test (ltb k 10))
+  where
+    go : Test (ltb k 10) → length (decimal k) ≤ 2
+    go (is-true t) = rw t (omega arith)
+    go (is-false t) = rw (t, lt-ltb (k / 10) 10 (omega arith)) (omega arith)
+
+no-fields : (k : ℕ) → 100 ≤ k → answerFields k ≡ 0
+unfolding answerFields
+no-fields k h = rw (ne-eqb k 5 (omega arith), ne-eqb k 6 (omega arith), ne-eqb k 7 (omega arith), ne-eqb k 8 (omega arith), ne-eqb k 9 (omega arith))
+
+told-short : (k : ℕ) (r : Answer) → length (decimal k) + length (spaced (fieldsTold k r)) ≤ 46
+unfolding spaced
+told-short k (answer n a b c d) = go (test (eqb n 0)) (test (ltb k 100))
+  where
+    all : List ℕ
+    all = a ∷ b ∷ c ∷ d ∷ []
+
+    go : Test (eqb n 0) → Test (ltb k 100) → length (decimal k) + length (spaced (fieldsTold k (answer n a b c d))) ≤ 46
+    go (is-false z) t = rw z (omega (arith, decimal-length k))
+    go (is-true z) (is-true t) =
+        rw z
+        (omega (arith, two-digits k (ltb-true k 100 t), spaced-length (take (answerFields k) all), length-take (answerFields k) all))
+    go (is-true z) (is-false t) = rw (z, no-fields k (ltb-false k 100 t)) (omega (arith, decimal-length k))
+
+-- a line's parts, one after another
+line-parts : (k : ℕ) (r : Answer) → ((decimal k ++ spaced (number r ∷ [])) ++ spaced (fieldsTold k r)) ++ (10 ∷ []) ≡ line k r
+unfolding line
+line-parts k (answer n a b c d) = rw (spaced-append (n ∷ []) (fieldsTold k (answer n a b c d))) (simp append-assoc)
+
+-- and their lengths
+pub parts-short : (k : ℕ) (r : Answer) → length (decimal k) + length (spaced (number r ∷ [])) + length (spaced (fieldsTold k r)) ≤ 57
+parts-short k r = omega (arith, told-short k r, spaced-length (number r ∷ []))
+
+pub line-short : (k : ℕ) (r : Answer) → length (line k r) ≤ 58
+line-short k r = rw (← line-parts k r) (simp length-append (omega (arith, parts-short k r)))
+
+pub wrote-line : (k : ℕ) (r : Answer) (p q e : ℕ) (l l₁ l₂ l₃ : List ℕ) → Wrote (decimal k) 0 p l l₁ → Wrote (spaced (number r ∷ [])) p q l₁ l₂
+    → Wrote (spaced (fieldsTold k r)) q e l₂ l₃ → Wrote (line k r) 0 (e + 1) l (set l₃ e 10)
+wrote-line k r p q e l l₁ l₂ l₃ a b c =
+    rw (← line-parts k r)
+    (wrote-both _ _ 0 e (e + 1) l l₃ (set l₃ e 10) (wrote-both _ _ 0 q e l l₂ l₃ (wrote-both _ _ 0 p q l l₁ l₂ a b) c) (wrote-one 10 e l₃))

@@ -1,0 +1,117 @@
+-- What the first record decodes to in each case, and the kind and length of a decoded request. Assumes nothing.
+use mathlib.Core.Path.{_≡_, refl, sym, _∙_}
+use mathlib.Core.Bool.{_&&_}
+use mathlib.Core.List.{List}
+use mathlib.Core.Logic.{_≢_}
+use mathlib.Core.Option.{Option, none, some}
+use Prim.Native.Nat.{ℕ, zero, suc, _≤_, _<_}
+use native.Mathlib.Omega.{arith}
+use lib.ListN.{length}
+use lib.Dec.{leb, eqb}
+use borrow.Author.Tests.{le-leb, lt-leb, eq-eqb, ne-eqb, leb-true, eqb-true}
+use Rattle.number.proofs.TestLaws.{Test, is-true, is-false, test, and-true, and-false-r}
+use Rattle.calls_format.specs.Records.{Request, lengthField, kindField, fieldsOf, requestOf, recordLength, decodeAs, decode}
+use Rattle.calls_format.specs.Decoded.{kindOf, lengthFor, lengthOf}
+
+-- a kind that is known to be j has j's length
+pub reach : {k n : ℕ} (j : ℕ) → k ≡ j → lengthOf k ≤ n → lengthOf j ≤ n
+reach j e h = rw e at h
+
+-- ---- the cases of a record
+
+pub cut-head : (l : List ℕ) → length l < 4 → decode l ≡ none
+unfolding decode
+cut-head l h = rw (lt-leb 4 (length l) h)
+
+-- four bytes are there, of the kind k, whose records have the length n
+pub record Headed (l : List ℕ) (k n : ℕ) : Type 0 where
+  pub long : 4 ≤ length l
+  pub kind : k ≡ kindField l
+  pub size : n ≡ lengthOf k
+
+module _ {l : List ℕ} {k n : ℕ} (h : Headed l k n) where
+  whole : (x : Option Request) → ((o : Option ℕ) → lengthFor o ≡ n → decodeAs l o ≡ x) → decode l ≡ x
+  unfolding decode
+  whole x f = rw (le-leb 4 (length l) (h .long), ← h .kind) (f (fieldsOf k) (sym (h .size)))
+
+  pub unknown : n ≡ 0 → decode l ≡ none
+  unknown z = whole none go
+    where
+      go : (o : Option ℕ) → lengthFor o ≡ n → decodeAs l o ≡ none
+      go none e = refl
+      go (some f) e = absurd (omega (arith, e))
+
+  pub other-length : lengthField l ≢ n → decode l ≡ none
+  other-length d = whole none go
+    where
+      go : (o : Option ℕ) → lengthFor o ≡ n → decodeAs l o ≡ none
+      go none e = refl
+      go (some f) e = rw (ne-eqb (lengthField l) (recordLength f) (λ q. d (q ∙ e)))
+
+  pub cut-body : length l < n → decode l ≡ none
+  cut-body c = whole none go
+    where
+      go : (o : Option ℕ) → lengthFor o ≡ n → decodeAs l o ≡ none
+      go none e = refl
+      go (some f) e =
+          rw (and-false-r (eqb (lengthField l) (recordLength f)) (leb (recordLength f) (length l)) (lt-leb (recordLength f) (length l) (omega (arith, e))))
+
+  pub decodes : n ≢ 0 → lengthField l ≡ n → n ≤ length l → decode l ≡ some (requestOf k l)
+  decodes z q c = whole (some (requestOf k l)) go
+    where
+      go : (o : Option ℕ) → lengthFor o ≡ n → decodeAs l o ≡ some (requestOf k l)
+      go none e = absurd (z (sym e))
+      go (some f) e =
+          rw (eq-eqb (lengthField l) (recordLength f) (q ∙ sym e), le-leb (recordLength f) (length l) (omega (arith, e)), ← h .kind)
+
+-- ---- a decoded request has its record's kind and length
+
+-- the kinds end at 9
+pub no-kind : (k : ℕ) → k ≢ 1 → k ≢ 2 → k ≢ 3 → k ≢ 4 → k ≢ 5 → k ≢ 6 → k ≢ 7 → k ≢ 8 → k ≢ 9 → fieldsOf k ≡ none
+unfolding fieldsOf
+no-kind k a b c d e f g h i =
+    rw (ne-eqb k 1 a, ne-eqb k 2 b, ne-eqb k 3 c, ne-eqb k 4 d, ne-eqb k 5 e, ne-eqb k 6 f, ne-eqb k 7 g, ne-eqb k 8 h, ne-eqb k 9 i)
+
+kind-back : (k n : ℕ) (l : List ℕ) → fieldsOf k ≡ some n → kindOf (requestOf k l) ≡ k
+unfolding fieldsOf requestOf
+kind-back zero n l e = absurd (let z : _≡_ {A = ℕ} 0 1 = cc in omega arith)
+kind-back (suc zero) n l e = refl
+kind-back (suc (suc zero)) n l e = refl
+kind-back (suc (suc (suc zero))) n l e = refl
+kind-back (suc (suc (suc (suc zero)))) n l e = refl
+kind-back (suc (suc (suc (suc (suc zero))))) n l e = refl
+kind-back (suc (suc (suc (suc (suc (suc zero)))))) n l e = refl
+kind-back (suc (suc (suc (suc (suc (suc (suc zero))))))) n l e = refl
+kind-back (suc (suc (suc (suc (suc (suc (suc (suc zero)))))))) n l e = refl
+kind-back (suc (suc (suc (suc (suc (suc (suc (suc (suc zero))))))))) n l e = refl
+kind-back (suc (suc (suc (suc (suc (suc (suc (suc (suc (suc k)))))))))) n l e =
+    let k′ : ℕ = suc (suc (suc (suc (suc (suc (suc (suc (suc (suc k))))))))) in
+    let u : fieldsOf k′ ≡ none =
+    no-kind k′ (omega arith) (omega arith) (omega arith) (omega arith) (omega arith) (omega arith) (omega arith) (omega arith) (omega arith) in
+    let z : _≡_ {A = ℕ} 0 1 = cc in
+    absurd (omega arith)
+
+-- kind and length of a decoded request are those that the record begins with, and the bytes have the whole record
+abbrev pub Heads : List ℕ → Request → Type 0
+Heads l r = (kindOf r ≡ kindField l) × (lengthOf (kindOf r) ≡ lengthField l) × (4 ≤ lengthField l) × (lengthField l ≤ length l)
+
+pub decoded-heads : (l : List ℕ) (r : Request) → decode l ≡ some r → Heads l r
+unfolding decode
+decoded-heads l r e = go (test (leb 4 (length l))) (fieldsOf (kindField l)) refl
+  where
+    known : (n : ℕ) → fieldsOf (kindField l) ≡ some n → Test (eqb (lengthField l) (recordLength n) && leb (recordLength n) (length l))
+        → decodeAs l (some n) ≡ some r → Heads l r
+    known n f (is-false t) d = absurd (let z : none ≡ some r = rw t at d in let w : _≡_ {A = ℕ} 0 1 = cc in omega arith)
+    known n f (is-true t) d =
+        let w : some (requestOf (kindField l) l) ≡ some r = rw t at d in
+        let z : requestOf (kindField l) l ≡ r = cc in
+        let k : kindOf r ≡ kindField l = rw z at (kind-back (kindField l) n l f) in
+        let h = and-true (eqb (lengthField l) (recordLength n)) (leb (recordLength n) (length l)) t in
+        let q : lengthField l ≡ recordLength n = eqb-true (lengthField l) (recordLength n) (h .0) in
+        let b : recordLength n ≤ length l = leb-true (recordLength n) (length l) (h .1) in
+        (k, rw (k, f) (sym q), omega arith, omega arith)
+
+    go : Test (leb 4 (length l)) → (o : Option ℕ) → fieldsOf (kindField l) ≡ o → Heads l r
+    go (is-false t) o f = absurd (let z : none ≡ some r = rw t at e in let w : _≡_ {A = ℕ} 0 1 = cc in omega arith)
+    go (is-true t) none f = absurd (let z : none ≡ some r = rw (t, f) at e in let w : _≡_ {A = ℕ} 0 1 = cc in omega arith)
+    go (is-true t) (some n) f = known n f (test (eqb (lengthField l) (recordLength n) && leb (recordLength n) (length l))) (rw (t, f) at e)

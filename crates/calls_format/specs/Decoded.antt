@@ -1,0 +1,44 @@
+-- What the code's requests stand for, and the kind and length that a request's record has. Assumes nothing.
+use mathlib.Core.Option.{Option, none, some}
+use Prim.Native.Nat.{ℕ}
+use Rattle.plain.specs.Call.{Call, clear, record-block, free, written, ask, valid, initialised, next, audit}
+use Rattle.monitor_base.specs.Answers.{callOf}
+use Rattle.calls_format.specs.declared.records.Request as code
+use Rattle.calls_format.specs.declared.records.Request.the-variants as case
+use Rattle.calls_format.specs.declared.records.Decoded.{Decoded}
+use Rattle.calls_format.specs.declared.records.Decoded.the-variants as decoded
+use Rattle.calls_format.specs.Records.{Request, newMap, call, fieldsOf, recordLength}
+
+abbrev pub requested : code.Request → Request
+requested (case.NewMap m) = newMap m
+requested (case.Call c) = call (callOf c)
+
+-- none where the record is undecodable
+abbrev pub decodedOf : Decoded → Option Request
+decodedOf (decoded.Call r) = some (requested r)
+decodedOf decoded.Undecodable = none
+
+-- the kind of a call; clear has none of its own
+abbrev pub callKind : Call → ℕ
+callKind clear = 0
+callKind (record-block b l) = 2
+callKind (free x) = 3
+callKind (written a n) = 4
+callKind (ask a) = 5
+callKind (valid a n from) = 6
+callKind (initialised a n) = 7
+callKind (next a) = 8
+callKind audit = 9
+
+abbrev pub kindOf : Request → ℕ
+kindOf (newMap m) = 1
+kindOf (call c) = callKind c
+
+-- the length of a record of so many fields; 0 where the kind is unknown
+abbrev pub lengthFor : (fields : Option ℕ) → ℕ
+lengthFor none = 0
+lengthFor (some n) = recordLength n
+
+-- the length of a record of a kind
+abbrev pub lengthOf : (kind : ℕ) → ℕ
+lengthOf k = lengthFor (fieldsOf k)

@@ -1,0 +1,5 @@
+pub mod Records
+pub mod Decoded
+pub mod Lines
+pub mod Writing
+pub mod Running

@@ -1,0 +1,30 @@
+-- The lines that the calls program writes. Assumes nothing.
+use mathlib.Core.Bool.{cond}
+use mathlib.Core.List.{List, [], _∷_, _++_}
+use Prim.Native.Nat.{ℕ, zero, suc, _+_, _/_, _%_}
+use lib.Dec.{ltb, eqb}
+use lib.ListN.{take}
+use Rattle.plain.specs.Call.{Answer, answer}
+
+-- the decimal digits of a number of at most n digits, as text
+unfoldable pub digits : (n v : ℕ) → List ℕ
+digits zero v = []
+digits (suc n) v = cond (ltb v 10) ((48 + v) ∷ []) (digits n (v / 10) ++ ((48 + v % 10) ∷ []))
+
+-- a 32-bit number has at most ten digits
+abbrev pub decimal : ℕ → List ℕ
+decimal v = digits 10 v
+
+-- each number after a space
+unfoldable pub spaced : List ℕ → List ℕ
+spaced [] = []
+spaced (v ∷ vs) = 32 ∷ (decimal v ++ spaced vs)
+
+-- how many answer fields a kind has
+unfoldable pub answerFields : (kind : ℕ) → ℕ
+answerFields k = cond (eqb k 5) 4 (cond (eqb k 6) 1 (cond (eqb k 7) 1 (cond (eqb k 8) 2 (cond (eqb k 9) 4 0))))
+
+-- kind, number and, if accepted, the answer fields in their order
+unfoldable pub line : (kind : ℕ) → Answer → List ℕ
+line k (answer n a b c d) =
+    decimal k ++ (spaced (n ∷ cond (eqb n 0) (take (answerFields k) (a ∷ b ∷ c ∷ d ∷ [])) []) ++ (10 ∷ []))
