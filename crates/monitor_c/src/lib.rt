@@ -1,0 +1,207 @@
+// The calls for C and Rust to link: a map is an array of four numbers, a shadow a pointer and a length, the answer fields go into a lent
+// array of four, and the number is returned.
+ghost use mathlib.Core.Path.{_≡_};
+ghost use lib.ListN.{length};
+ghost use Rattle.plain.specs.Call as plain;
+ghost use Rattle.monitor_base.specs.Answers.{answerOf};
+ghost use Rattle.monitor_base.specs.Calls.{call};
+ghost use Rattle.monitor_c.specs.Lent.{mapOf, answered, left};
+use map::Address;
+use map::Map;
+use monitor::Answer;
+
+fn map_of(map: &[u32; 4]) -> Map
+    ensures { λ r. ⌜ r ≡ mapOf (now (map .entry)) ⌝ }
+{
+    Map {
+        heap_start: map[0],
+        heap_size: map[1],
+        stack_start: map[2],
+        stack_size: map[3],
+    }
+}
+
+// The fields go into the lent array, the number is the result.
+fn told(r: Answer, fields: &mut [u32]) -> u32
+    requires { ⌜ length (now fields) ≡ 4 ⌝ }
+    ensures { λ k. ⌜ answered k (now (fields .exit)) ≡ answerOf r ⌝ }
+{
+    fields[0] = r.first;
+    fields[1] = r.second;
+    fields[2] = r.third;
+    fields[3] = r.fourth;
+    r.number
+}
+
+#[no_mangle]
+pub extern "C" fn block_monitor_clear(
+    map: &[u32; 4],
+    heap: &mut [u8],
+    primary: &mut [u8],
+    secondary: &mut [u8],
+    fields: &mut [u32; 4],
+) -> u32
+    ensures { λ k. ⌜ left k (now (fields .exit)) (now (heap .exit)) (now (primary .exit)) (now (secondary .exit))
+        ≡ call (mapOf (now (map .entry))) (plain.clear) (now (heap .entry), (now (primary .entry), now (secondary .entry))) ⌝ }
+{
+    told(
+        monitor::clear(map_of(map), heap, primary, secondary),
+        fields,
+    )
+}
+
+#[no_mangle]
+pub extern "C" fn block_monitor_record(
+    map: &[u32; 4],
+    heap: &mut [u8],
+    primary: &mut [u8],
+    secondary: &mut [u8],
+    base: u32,
+    length: u32,
+    fields: &mut [u32; 4],
+) -> u32
+    ensures { λ k. ⌜ left k (now (fields .exit)) (now (heap .exit)) (now (primary .exit)) (now (secondary .exit))
+        ≡ call (mapOf (now (map .entry))) (plain.record-block base length) (now (heap .entry), (now (primary .entry), now (secondary .entry))) ⌝ }
+{
+    told(
+        monitor::record(map_of(map), heap, primary, secondary, Address(base), length),
+        fields,
+    )
+}
+
+#[no_mangle]
+pub extern "C" fn block_monitor_free(
+    map: &[u32; 4],
+    heap: &mut [u8],
+    primary: &mut [u8],
+    secondary: &mut [u8],
+    base: u32,
+    fields: &mut [u32; 4],
+) -> u32
+    ensures { λ k. ⌜ left k (now (fields .exit)) (now (heap .exit)) (now (primary .exit)) (now (secondary .exit))
+        ≡ call (mapOf (now (map .entry))) (plain.free base) (now (heap .entry), (now (primary .entry), now (secondary .entry))) ⌝ }
+{
+    told(
+        monitor::free(map_of(map), heap, primary, secondary, Address(base)),
+        fields,
+    )
+}
+
+#[no_mangle]
+pub extern "C" fn block_monitor_written(
+    map: &[u32; 4],
+    heap: &mut [u8],
+    primary: &mut [u8],
+    secondary: &mut [u8],
+    address: u32,
+    n: u32,
+    fields: &mut [u32; 4],
+) -> u32
+    ensures { λ k. ⌜ left k (now (fields .exit)) (now (heap .exit)) (now (primary .exit)) (now (secondary .exit))
+        ≡ call (mapOf (now (map .entry))) (plain.written address n) (now (heap .entry), (now (primary .entry), now (secondary .entry))) ⌝ }
+{
+    told(
+        monitor::written(map_of(map), heap, primary, secondary, Address(address), n),
+        fields,
+    )
+}
+
+#[no_mangle]
+pub extern "C" fn block_monitor_ask(
+    map: &[u32; 4],
+    heap: &[u8],
+    primary: &[u8],
+    secondary: &[u8],
+    address: u32,
+    fields: &mut [u32; 4],
+) -> u32
+    ensures { λ k. ⌜ left k (now (fields .exit)) (now (heap .entry)) (now (primary .entry)) (now (secondary .entry))
+        ≡ call (mapOf (now (map .entry))) (plain.ask address) (now (heap .entry), (now (primary .entry), now (secondary .entry))) ⌝ }
+{
+    told(
+        monitor::ask(map_of(map), heap, primary, secondary, Address(address)),
+        fields,
+    )
+}
+
+#[no_mangle]
+pub extern "C" fn block_monitor_valid(
+    map: &[u32; 4],
+    heap: &[u8],
+    primary: &[u8],
+    secondary: &[u8],
+    address: u32,
+    n: u32,
+    from: u32,
+    fields: &mut [u32; 4],
+) -> u32
+    ensures { λ k. ⌜ left k (now (fields .exit)) (now (heap .entry)) (now (primary .entry)) (now (secondary .entry))
+        ≡ call (mapOf (now (map .entry))) (plain.valid address n from) (now (heap .entry), (now (primary .entry), now (secondary .entry))) ⌝ }
+{
+    told(
+        monitor::valid(
+            map_of(map),
+            heap,
+            primary,
+            secondary,
+            Address(address),
+            n,
+            Address(from),
+        ),
+        fields,
+    )
+}
+
+#[no_mangle]
+pub extern "C" fn block_monitor_initialised(
+    map: &[u32; 4],
+    heap: &[u8],
+    primary: &[u8],
+    secondary: &[u8],
+    address: u32,
+    n: u32,
+    fields: &mut [u32; 4],
+) -> u32
+    ensures { λ k. ⌜ left k (now (fields .exit)) (now (heap .entry)) (now (primary .entry)) (now (secondary .entry))
+        ≡ call (mapOf (now (map .entry))) (plain.initialised address n) (now (heap .entry), (now (primary .entry), now (secondary .entry))) ⌝ }
+{
+    told(
+        monitor::initialised(map_of(map), heap, primary, secondary, Address(address), n),
+        fields,
+    )
+}
+
+#[no_mangle]
+pub extern "C" fn block_monitor_next(
+    map: &[u32; 4],
+    heap: &[u8],
+    primary: &[u8],
+    secondary: &[u8],
+    address: u32,
+    fields: &mut [u32; 4],
+) -> u32
+    ensures { λ k. ⌜ left k (now (fields .exit)) (now (heap .entry)) (now (primary .entry)) (now (secondary .entry))
+        ≡ call (mapOf (now (map .entry))) (plain.next address) (now (heap .entry), (now (primary .entry), now (secondary .entry))) ⌝ }
+{
+    told(
+        monitor::next(map_of(map), heap, primary, secondary, Address(address)),
+        fields,
+    )
+}
+
+#[no_mangle]
+pub extern "C" fn block_monitor_audit(
+    map: &[u32; 4],
+    heap: &[u8],
+    primary: &[u8],
+    secondary: &[u8],
+    fields: &mut [u32; 4],
+) -> u32
+    ensures { λ k. ⌜ left k (now (fields .exit)) (now (heap .entry)) (now (primary .entry)) (now (secondary .entry))
+        ≡ call (mapOf (now (map .entry))) (plain.audit) (now (heap .entry), (now (primary .entry), now (secondary .entry))) ⌝ }
+{
+    told(
+        monitor::audit(map_of(map), heap, primary, secondary),
+        fields,
+    )
+}

@@ -1,0 +1,116 @@
+//! The proved library against the models: number, fields and every shadow byte. `MONITOR_CALLS` multiplies the number of calls.
+
+use linked::call;
+use model::bytes;
+use model::generate::{self, shadows, Scale};
+use model::image::{image, Shadows};
+use model::map::Map;
+use model::plain::{List, PlainList};
+use model::random::Random;
+
+fn times() -> u64 {
+    std::env::var("MONITOR_CALLS")
+        .ok()
+        .and_then(|x| x.parse().ok())
+        .unwrap_or(1)
+}
+
+/// A run from cleared shadows against the plain list and its image.
+fn run(seed: u64, scale: Scale, calls: u32) {
+    let mut random = Random::new(seed);
+    let map = generate::map(&mut random, scale);
+    let mut list = PlainList::new(map);
+    let mut lent = Shadows::cleared(map);
+    for _ in 0..calls {
+        let one = generate::call(&mut random, map, list.blocks());
+        let answer = call(
+            map,
+            &mut lent.heap,
+            &mut lent.primary,
+            &mut lent.secondary,
+            one,
+        );
+        assert_eq!(list.step(one), answer, "seed {seed} {map:?} {one:?}");
+        assert!(
+            image(map, list.blocks()) == lent,
+            "bytes differ: seed {seed} {map:?} {one:?}"
+        );
+    }
+}
+
+#[test]
+fn runs_in_crowded_areas() {
+    println!("seeds 0 to {}", 1500 * times());
+    for seed in 0..1500 * times() {
+        run(seed, Scale::Crowded, 120);
+    }
+}
+
+#[test]
+fn runs_at_full_size() {
+    println!("seeds 0 to {}", 10 * times());
+    for seed in 0..10 * times() {
+        run(seed, Scale::Full, 150);
+    }
+}
+
+/// One call on any bytes against the byte-level model.
+fn once(random: &mut Random, map: Map, mut lent: Shadows, seed: u64) {
+    let one = generate::call(random, map, &[]);
+    let mut other = lent.clone();
+    let said = call(
+        map,
+        &mut lent.heap,
+        &mut lent.primary,
+        &mut lent.secondary,
+        one,
+    );
+    let model = bytes::call(
+        map,
+        &mut other.heap,
+        &mut other.primary,
+        &mut other.secondary,
+        one,
+    );
+    assert_eq!(said, model, "seed {seed} {map:?} {one:?} {other:?}");
+    assert!(lent == other, "bytes differ: seed {seed} {map:?} {one:?}");
+}
+
+#[test]
+fn calls_on_damaged_and_random_bytes() {
+    println!("seeds 0 to {}", 60_000 * times());
+    for seed in 0..60_000 * times() {
+        let mut random = Random::new(seed);
+        let map = generate::map(&mut random, Scale::Crowded);
+        let lent = if random.once_in(3) {
+            shadows::noise(&mut random, map)
+        } else {
+            shadows::damaged(&mut random, map, 1 + seed % 6)
+        };
+        once(&mut random, map, lent, seed);
+    }
+}
+
+#[test]
+fn bad_maps_and_wrong_lengths() {
+    println!("seeds 0 to {}", 20_000 * times());
+    for seed in 0..20_000 * times() {
+        let mut random = Random::new(seed);
+        let good = generate::map(&mut random, Scale::Crowded);
+        let mut lent = shadows::damaged(&mut random, good, 2);
+        let map = if random.once_in(2) {
+            generate::edge_map(&mut random)
+        } else {
+            good
+        };
+        let shorter = |v: &mut Vec<u8>, random: &mut Random| {
+            if random.once_in(4) {
+                v.truncate(random.below(v.len() as u64 + 1) as usize);
+            }
+        };
+        shorter(&mut lent.heap, &mut random);
+        shorter(&mut lent.primary, &mut random);
+        shorter(&mut lent.secondary, &mut random);
+        once(&mut random, map, lent, seed);
+    }
+}

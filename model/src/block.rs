@@ -1,0 +1,82 @@
+//! A live block, its footprint, and where a block may be placed.
+
+use std::ops::Range;
+
+use crate::call::refusal;
+use crate::map::{Area, Map, SEGMENT};
+
+/// A block with one written mark for each of its bytes.
+#[derive(Clone, Debug, PartialEq, Eq)]
+pub struct Block {
+    pub base: u32,
+    pub length: u32,
+    pub written: Vec<bool>,
+}
+
+impl Block {
+    /// A block none of whose bytes is written.
+    pub fn unwritten(base: u32, length: u32) -> Self {
+        Block {
+            base,
+            length,
+            written: vec![false; length as usize],
+        }
+    }
+
+    /// The first address past the block, in whole numbers.
+    pub fn end(&self) -> u64 {
+        u64::from(self.base) + u64::from(self.length)
+    }
+
+    /// Whether all n bytes from the address on lie in the block.
+    pub fn holds(&self, address: u32, n: u32) -> bool {
+        self.base <= address && u64::from(address) + u64::from(n) <= self.end() && n > 0
+    }
+
+    /// The written marks of n bytes that the block holds.
+    pub fn marks(&mut self, address: u32, n: u32) -> &mut [bool] {
+        let offset = (address - self.base) as usize;
+        &mut self.written[offset..offset + n as usize]
+    }
+
+    /// How many bytes are written.
+    pub fn written_count(&self) -> u32 {
+        self.written.iter().filter(|&&mark| mark).count() as u32
+    }
+}
+
+/// The application bytes whose shadow a block takes: a heap block's header and
+/// whole segments, a stack block's own bytes.
+pub fn footprint(area: Area, base: u32, length: u32) -> Range<u64> {
+    let (base, length) = (u64::from(base), u64::from(length));
+    match area {
+        Area::Heap => base - SEGMENT..base + length.div_ceil(SEGMENT) * SEGMENT,
+        Area::Stack => base..base + length,
+    }
+}
+
+/// The area a block is placed in, or the refusal that arguments and map decide.
+pub fn placement(map: Map, base: u32, length: u32) -> Result<Area, u32> {
+    if length == 0 {
+        return Err(refusal::ZERO);
+    }
+    let area = map.area(base).ok_or(refusal::OUTSIDE)?;
+    let bounds = map.bounds(area);
+    let first = match area {
+        Area::Heap => bounds.start + SEGMENT,
+        Area::Stack => bounds.start,
+    };
+    // Bytes, not segments, decide the fit: an unaligned base gets 5, not 4.
+    if u64::from(base) < first || u64::from(base) + u64::from(length) > bounds.end {
+        return Err(refusal::OUTSIDE);
+    }
+    if area == Area::Heap && u64::from(base) % SEGMENT != 0 {
+        return Err(refusal::UNALIGNED);
+    }
+    Ok(area)
+}
+
+/// Whether two footprints share a byte.
+pub fn meet(one: &Range<u64>, other: &Range<u64>) -> bool {
+    one.start < other.end && other.start < one.end
+}

@@ -1,0 +1,234 @@
+//! The byte-level model: all nine calls on any map and any shadow bytes.
+//!
+//! It keeps nothing between calls; the shadows hold all of the state.
+
+use std::ops::Range;
+
+use crate::block::{footprint, placement};
+use crate::call::{refusal, Answer, Call, Outcome, NO_FIELDS};
+use crate::decode::decode;
+use crate::image::{stack_code, EIGHT, LONGEST_SHORT};
+use crate::map::{Area, Map};
+use crate::plain::{not_zero, totals};
+use crate::reading::{Reading, View};
+
+/// One call on lent shadows.
+pub fn call(
+    map: Map,
+    heap: &mut [u8],
+    primary: &mut [u8],
+    secondary: &mut [u8],
+    call: Call,
+) -> Answer {
+    let mut lent = Lent {
+        map,
+        heap,
+        primary,
+        secondary,
+    };
+    lent.outcome(call).into()
+}
+
+struct Lent<'a> {
+    map: Map,
+    heap: &'a mut [u8],
+    primary: &'a mut [u8],
+    secondary: &'a mut [u8],
+}
+
+impl Lent<'_> {
+    fn outcome(&mut self, call: Call) -> Outcome {
+        self.check()?;
+        match call {
+            Call::Clear => Ok(self.clear()),
+            Call::Record { base, length } => self.record(base, length),
+            Call::Free { base } => self.free(base),
+            Call::Written { address, n } => self.written(address, n),
+            Call::Ask { address } => self.ask(address),
+            Call::Valid { address, n, from } => self.valid(address, n, from),
+            Call::Initialised { address, n } => self.initialised(address, n),
+            Call::Next { address } => self.next(address),
+            Call::Audit => self.audit(),
+        }
+    }
+
+    /// Numbers 1 and 2, which come before all else.
+    fn check(&self) -> Result<(), u32> {
+        if !self.map.good() {
+            return Err(refusal::BAD_MAP);
+        }
+        let heap_size = self.map.heap_size as usize;
+        let stack_size = self.map.stack_size as usize;
+        if self.heap.len() != heap_size
+            || self.primary.len() != stack_size
+            || self.secondary.len() != stack_size
+        {
+            return Err(refusal::SHADOW_LENGTH);
+        }
+        Ok(())
+    }
+
+    fn view(&self) -> View<'_> {
+        View {
+            map: self.map,
+            heap: self.heap,
+            primary: self.primary,
+            secondary: self.secondary,
+        }
+    }
+
+    fn clear(&mut self) -> [u32; 4] {
+        self.heap.fill(0);
+        self.primary.fill(0);
+        self.secondary.fill(0);
+        NO_FIELDS
+    }
+
+    fn record(&mut self, base: u32, length: u32) -> Outcome {
+        let area = placement(self.map, base, length)?;
+        let place = self.place(area, base, length);
+        let zero = |shadow: &[u8]| shadow[place.clone()].iter().all(|&byte| byte == 0);
+        let free = match area {
+            Area::Heap => zero(self.heap),
+            Area::Stack => zero(self.primary) && zero(self.secondary),
+        };
+        if !free {
+            return Err(refusal::TAKEN);
+        }
+        match area {
+            Area::Heap => self.record_heap(place, length),
+            Area::Stack => self.record_stack(place, length),
+        }
+        Ok(NO_FIELDS)
+    }
+
+    fn record_heap(&mut self, place: Range<usize>, length: u32) {
+        put(self.heap, place.start + 4, length);
+        let mut w = 1;
+        for segment in (place.start + EIGHT..place.end).step_by(EIGHT) {
+            put(self.heap, segment, w);
+            w += 8;
+        }
+    }
+
+    fn record_stack(&mut self, place: Range<usize>, length: u32) {
+        for (offset, position) in place.clone().enumerate() {
+            self.primary[position] = stack_code(length, offset as u32) << 2;
+        }
+        if length <= LONGEST_SHORT {
+            return;
+        }
+        // A piece starts every eight bytes as long as eight more are there.
+        let mut offset = 0;
+        while offset + 8 <= length {
+            let piece = place.start + offset as usize;
+            put(self.secondary, piece, length);
+            put(self.secondary, piece + 4, offset);
+            offset += 8;
+        }
+    }
+
+    fn free(&mut self, base: u32) -> Outcome {
+        let area = self.map.area(base).ok_or(refusal::OUTSIDE)?;
+        let found = self.view().read(base).block()?;
+        let found = found.filter(|found| found.offset == 0);
+        let length = found.ok_or(refusal::NO_BLOCK)?.length;
+        let place = self.place(area, base, length);
+        match area {
+            Area::Heap => self.heap[place].fill(0),
+            Area::Stack => {
+                self.primary[place.clone()].fill(0);
+                self.secondary[place].fill(0);
+            }
+        }
+        Ok(NO_FIELDS)
+    }
+
+    fn written(&mut self, address: u32, n: u32) -> Outcome {
+        not_zero(n)?;
+        let area = self.map.area(address).ok_or(refusal::OUTSIDE)?;
+        let found = self.view().read(address).block()?;
+        found.filter(|f| f.holds(n)).ok_or(refusal::NO_BLOCK)?;
+        let first = self.map.position(area, address);
+        for position in first..first + n as usize {
+            match area {
+                Area::Heap => self.heap[position - position % EIGHT + 4] |= 1 << (position % EIGHT),
+                Area::Stack => self.primary[position] |= 1,
+            }
+        }
+        Ok(NO_FIELDS)
+    }
+
+    fn ask(&self, address: u32) -> Outcome {
+        self.map.area(address).ok_or(refusal::OUTSIDE)?;
+        let found = self.view().read(address).block()?;
+        let found = found.ok_or(refusal::NO_BLOCK)?;
+        let written = u32::from(found.written);
+        Ok([found.base, found.length, found.offset, written])
+    }
+
+    fn valid(&self, address: u32, n: u32, from: u32) -> Outcome {
+        not_zero(n)?;
+        // Damage in either reading is 8, whatever the other one says.
+        let first = self.view().read(address).block()?;
+        let origin = self.view().read(from).block()?;
+        let same = match (first, origin) {
+            (Some(first), Some(origin)) => first.holds(n) && first.same_block(&origin),
+            _ => false,
+        };
+        Ok([u32::from(same), 0, 0, 0])
+    }
+
+    fn initialised(&self, address: u32, n: u32) -> Outcome {
+        not_zero(n)?;
+        let found = self.view().read(address).block()?;
+        let all_written = found.is_some_and(|found| found.holds(n))
+            && (0..n).all(|step| self.written_bit(address + step));
+        Ok([u32::from(all_written), 0, 0, 0])
+    }
+
+    /// The written bit of an address of either area, whatever stands around it.
+    fn written_bit(&self, address: u32) -> bool {
+        match self.map.area(address) {
+            Some(Area::Heap) => {
+                let position = self.map.position(Area::Heap, address);
+                self.heap[position - position % EIGHT + 4] >> (position % EIGHT) & 1 == 1
+            }
+            Some(Area::Stack) => self.primary[self.map.position(Area::Stack, address)] & 1 == 1,
+            None => false,
+        }
+    }
+
+    /// The climb; outside the areas each reading is no block, so it skips there.
+    fn next(&self, address: u32) -> Outcome {
+        for area in self.map.climbing() {
+            let bounds = self.map.bounds(area);
+            for candidate in bounds.start.max(address.into())..bounds.end {
+                match self.view().read(candidate as u32) {
+                    Reading::Damaged => return Err(refusal::DAMAGED),
+                    Reading::Block(found) if found.offset == 0 => {
+                        return Ok([found.base, found.length, 0, 0]);
+                    }
+                    _ => {}
+                }
+            }
+        }
+        Err(refusal::NO_BLOCK)
+    }
+
+    fn audit(&self) -> Outcome {
+        let blocks = decode(self.view()).ok_or(refusal::DAMAGED)?;
+        Ok(totals(self.map, &blocks))
+    }
+
+    /// The shadow positions of a block's footprint.
+    fn place(&self, area: Area, base: u32, length: u32) -> Range<usize> {
+        let start = self.map.bounds(area).start;
+        let place = footprint(area, base, length);
+        (place.start - start) as usize..(place.end - start) as usize
+    }
+}
+
+fn put(shadow: &mut [u8], position: usize, number: u32) {
+    shadow[position..position + 4].copy_from_slice(&number.to_le_bytes());
+}

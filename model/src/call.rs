@@ -1,0 +1,101 @@
+//! The nine calls, their answers, and the numbers of refusal.
+
+/// The numbers of refusal, in the order in which the lowest wins.
+pub mod refusal {
+    pub const BAD_MAP: u32 = 1;
+    pub const SHADOW_LENGTH: u32 = 2;
+    pub const ZERO: u32 = 3;
+    pub const OUTSIDE: u32 = 4;
+    pub const UNALIGNED: u32 = 5;
+    pub const TAKEN: u32 = 6;
+    pub const NO_BLOCK: u32 = 7;
+    pub const DAMAGED: u32 = 8;
+    pub const UNDECODABLE: u32 = 9;
+    pub const TOO_LARGE: u32 = 10;
+}
+
+/// A call with its arguments, in the order of the paper.
+#[derive(Clone, Copy, Debug, PartialEq, Eq)]
+pub enum Call {
+    Clear,
+    Record { base: u32, length: u32 },
+    Free { base: u32 },
+    Written { address: u32, n: u32 },
+    Ask { address: u32 },
+    Valid { address: u32, n: u32, from: u32 },
+    Initialised { address: u32, n: u32 },
+    Next { address: u32 },
+    Audit,
+}
+
+impl Call {
+    /// How many answer fields the call has when accepted.
+    pub fn answer_fields(self) -> usize {
+        match self {
+            Call::Clear | Call::Record { .. } | Call::Free { .. } | Call::Written { .. } => 0,
+            Call::Valid { .. } | Call::Initialised { .. } => 1,
+            Call::Next { .. } => 2,
+            Call::Ask { .. } | Call::Audit => 4,
+        }
+    }
+
+    /// Whether the call only looks: it leaves every shadow byte as it was.
+    pub fn only_looks(self) -> bool {
+        self.answer_fields() > 0
+    }
+
+    /// The call's kind and fields in a calls file; clear has no kind of its own.
+    pub fn record_fields(self) -> Option<(u16, Vec<u32>)> {
+        Some(match self {
+            Call::Clear => return None,
+            Call::Record { base, length } => (2, vec![base, length]),
+            Call::Free { base } => (3, vec![base]),
+            Call::Written { address, n } => (4, vec![address, n]),
+            Call::Ask { address } => (5, vec![address]),
+            Call::Valid { address, n, from } => (6, vec![address, n, from]),
+            Call::Initialised { address, n } => (7, vec![address, n]),
+            Call::Next { address } => (8, vec![address]),
+            Call::Audit => (9, vec![]),
+        })
+    }
+
+    /// The call of a kind with these fields; none if kind or count is wrong.
+    pub fn from_record(kind: u16, fields: &[u32]) -> Option<Call> {
+        Some(match (kind, fields) {
+            (2, &[base, length]) => Call::Record { base, length },
+            (3, &[base]) => Call::Free { base },
+            (4, &[address, n]) => Call::Written { address, n },
+            (5, &[address]) => Call::Ask { address },
+            (6, &[address, n, from]) => Call::Valid { address, n, from },
+            (7, &[address, n]) => Call::Initialised { address, n },
+            (8, &[address]) => Call::Next { address },
+            (9, &[]) => Call::Audit,
+            _ => return None,
+        })
+    }
+}
+
+/// Answer fields of an accepted call, or the number of its refusal.
+pub type Outcome = Result<[u32; 4], u32>;
+
+/// The fields of an accepted call that answers nothing.
+pub const NO_FIELDS: [u32; 4] = [0; 4];
+
+/// What a call returns: unused fields, and all fields of a refusal, are zero.
+#[derive(Clone, Copy, Debug, PartialEq, Eq)]
+pub struct Answer {
+    pub number: u32,
+    pub fields: [u32; 4],
+}
+
+impl From<Outcome> for Answer {
+    fn from(outcome: Outcome) -> Self {
+        match outcome {
+            Ok(fields) => Answer { number: 0, fields },
+            Err(number) => Answer {
+                number,
+                fields: NO_FIELDS,
+            },
+        }
+    }
+}

@@ -1,0 +1,34 @@
+//! Models of the block monitor, written from its paper alone.
+//!
+//! No line here was taken from, or compared with, the monitor's own source:
+//! what the two agree on is what the paper says. Two models stand side by side.
+//! The plain list knows blocks and no shadow; the byte-level model knows shadow
+//! bytes and no list. On every run of calls they must give the same answers,
+//! and the image of the list must be the bytes.
+//!
+//! - [`map`]: the map, its rules, and the two areas, in whole numbers.
+//! - [`call`]: the nine calls, their answers and the numbers of refusal.
+//! - [`block`]: a live block, its footprint, and where a block may be placed.
+//! - [`plain`]: the plain list, a vector of blocks in address order.
+//! - [`plain_btree`]: the same list on a `BTreeMap`, a peer for timing.
+//! - [`image`]: the shadow bytes that the two layouts give for a list.
+//! - [`reading`]: what one address reads as, on any shadow bytes.
+//! - [`decode`]: the one list that shadow bytes could be the image of.
+//! - [`bytes`]: all nine calls on any map and any shadow bytes.
+//! - [`program`]: the calls program, run on a plain list.
+//! - [`notation`]: the one-line notation of the example files.
+//! - [`random`], [`generate`]: seeded maps, calls, shadows and input files.
+
+pub mod block;
+pub mod bytes;
+pub mod call;
+pub mod decode;
+pub mod generate;
+pub mod image;
+pub mod map;
+pub mod notation;
+pub mod plain;
+pub mod plain_btree;
+pub mod program;
+pub mod random;
+pub mod reading;

@@ -1,0 +1,164 @@
+//! The plain list: live blocks in address order, and no shadow anywhere.
+//!
+//! It is fed the map and each call's arguments, nothing else.
+
+use crate::block::{footprint, meet, placement, Block};
+use crate::call::{refusal, Answer, Call, Outcome, NO_FIELDS};
+use crate::map::{Area, Map};
+
+/// What the paper calls the plain list, whatever holds its blocks.
+pub trait List {
+    /// The empty list; the map must be good.
+    fn new(map: Map) -> Self;
+    /// One call: its answer, and the list as it is afterwards.
+    fn step(&mut self, call: Call) -> Answer;
+    /// The live blocks in address order.
+    fn listed(&self) -> Vec<Block>;
+}
+
+/// The plain list on a vector in address order.
+#[derive(Clone, Debug)]
+pub struct PlainList {
+    map: Map,
+    blocks: Vec<Block>,
+}
+
+impl List for PlainList {
+    fn new(map: Map) -> Self {
+        assert!(map.good(), "a plain list is built for a good map");
+        PlainList {
+            map,
+            blocks: Vec::new(),
+        }
+    }
+
+    fn step(&mut self, call: Call) -> Answer {
+        self.outcome(call).into()
+    }
+
+    fn listed(&self) -> Vec<Block> {
+        self.blocks.clone()
+    }
+}
+
+impl PlainList {
+    /// The live blocks in address order, without a copy.
+    pub fn blocks(&self) -> &[Block] {
+        &self.blocks
+    }
+
+    /// The map the list was built for.
+    pub fn map(&self) -> Map {
+        self.map
+    }
+
+    fn outcome(&mut self, call: Call) -> Outcome {
+        match call {
+            Call::Clear => {
+                self.blocks.clear();
+                Ok(NO_FIELDS)
+            }
+            Call::Record { base, length } => self.record(base, length),
+            Call::Free { base } => self.free(base),
+            Call::Written { address, n } => self.written(address, n),
+            Call::Ask { address } => self.ask(address),
+            Call::Valid { address, n, from } => self.valid(address, n, from),
+            Call::Initialised { address, n } => self.initialised(address, n),
+            Call::Next { address } => self.next(address),
+            Call::Audit => Ok(self.audit()),
+        }
+    }
+
+    fn record(&mut self, base: u32, length: u32) -> Outcome {
+        let area = placement(self.map, base, length)?;
+        let place = footprint(area, base, length);
+        let taken = self.blocks.iter().any(|block| {
+            self.map.area(block.base) == Some(area)
+                && meet(&footprint(area, block.base, block.length), &place)
+        });
+        if taken {
+            return Err(refusal::TAKEN);
+        }
+        let index = self.blocks.partition_point(|block| block.base < base);
+        self.blocks.insert(index, Block::unwritten(base, length));
+        Ok(NO_FIELDS)
+    }
+
+    fn free(&mut self, base: u32) -> Outcome {
+        self.map.area(base).ok_or(refusal::OUTSIDE)?;
+        let index = self.blocks.iter().position(|block| block.base == base);
+        self.blocks.remove(index.ok_or(refusal::NO_BLOCK)?);
+        Ok(NO_FIELDS)
+    }
+
+    fn written(&mut self, address: u32, n: u32) -> Outcome {
+        not_zero(n)?;
+        self.map.area(address).ok_or(refusal::OUTSIDE)?;
+        let holder = self.blocks.iter_mut().find(|b| b.holds(address, n));
+        let block = holder.ok_or(refusal::NO_BLOCK)?;
+        block.marks(address, n).fill(true);
+        Ok(NO_FIELDS)
+    }
+
+    fn ask(&self, address: u32) -> Outcome {
+        self.map.area(address).ok_or(refusal::OUTSIDE)?;
+        let block = self.holder(address, 1).ok_or(refusal::NO_BLOCK)?;
+        let offset = address - block.base;
+        let written = u32::from(block.written[offset as usize]);
+        Ok([block.base, block.length, offset, written])
+    }
+
+    fn valid(&self, address: u32, n: u32, from: u32) -> Outcome {
+        not_zero(n)?;
+        let block = self.holder(address, n);
+        let same = block.is_some_and(|block| block.holds(from, 1));
+        Ok([u32::from(same), 0, 0, 0])
+    }
+
+    fn initialised(&self, address: u32, n: u32) -> Outcome {
+        not_zero(n)?;
+        let all_written = self.holder(address, n).is_some_and(|block| {
+            let offset = (address - block.base) as usize;
+            block.written[offset..][..n as usize]
+                .iter()
+                .all(|&mark| mark)
+        });
+        Ok([u32::from(all_written), 0, 0, 0])
+    }
+
+    fn next(&self, address: u32) -> Outcome {
+        let mut following = self.blocks.iter().filter(|block| block.base >= address);
+        let block = following.next().ok_or(refusal::NO_BLOCK)?;
+        Ok([block.base, block.length, 0, 0])
+    }
+
+    fn audit(&self) -> [u32; 4] {
+        totals(self.map, &self.blocks)
+    }
+
+    fn holder(&self, address: u32, n: u32) -> Option<&Block> {
+        self.blocks.iter().find(|block| block.holds(address, n))
+    }
+}
+
+/// Number 3, which comes before the address is looked at.
+pub(crate) fn not_zero(n: u32) -> Result<(), u32> {
+    if n == 0 {
+        return Err(refusal::ZERO);
+    }
+    Ok(())
+}
+
+/// Audit's fields: heap blocks, stack blocks, live bytes, written bytes.
+pub fn totals<'a>(map: Map, blocks: impl IntoIterator<Item = &'a Block>) -> [u32; 4] {
+    let mut fields = NO_FIELDS;
+    for block in blocks {
+        match map.area(block.base) {
+            Some(Area::Heap) => fields[0] += 1,
+            _ => fields[1] += 1,
+        }
+        fields[2] += block.length;
+        fields[3] += block.written_count();
+    }
+    fields
+}

@@ -1,0 +1,124 @@
+//! The plain list on a `BTreeMap` keyed by base: same answers, faster look-ups.
+
+use std::collections::BTreeMap;
+
+use crate::block::{footprint, meet, placement, Block};
+use crate::call::{refusal, Answer, Call, Outcome, NO_FIELDS};
+use crate::map::Map;
+use crate::plain::{not_zero, totals, List};
+
+/// The plain list on a balanced tree, a peer for timing.
+#[derive(Clone, Debug)]
+pub struct PlainTree {
+    map: Map,
+    blocks: BTreeMap<u32, Block>,
+}
+
+impl List for PlainTree {
+    fn new(map: Map) -> Self {
+        assert!(map.good(), "a plain list is built for a good map");
+        PlainTree {
+            map,
+            blocks: BTreeMap::new(),
+        }
+    }
+
+    fn step(&mut self, call: Call) -> Answer {
+        self.outcome(call).into()
+    }
+
+    fn listed(&self) -> Vec<Block> {
+        self.blocks.values().cloned().collect()
+    }
+}
+
+impl PlainTree {
+    fn outcome(&mut self, call: Call) -> Outcome {
+        match call {
+            Call::Clear => {
+                self.blocks.clear();
+                Ok(NO_FIELDS)
+            }
+            Call::Record { base, length } => self.record(base, length),
+            Call::Free { base } => self.free(base),
+            Call::Written { address, n } => self.written(address, n),
+            Call::Ask { address } => self.ask(address),
+            Call::Valid { address, n, from } => self.valid(address, n, from),
+            Call::Initialised { address, n } => self.initialised(address, n),
+            Call::Next { address } => self.next(address),
+            Call::Audit => Ok(totals(self.map, self.blocks.values())),
+        }
+    }
+
+    fn record(&mut self, base: u32, length: u32) -> Outcome {
+        let area = placement(self.map, base, length)?;
+        let place = footprint(area, base, length);
+        // Footprints are disjoint and in base order, so only neighbours can meet.
+        let before = self.blocks.range(..base).next_back();
+        let after = self.blocks.range(base..).next();
+        let taken = before.into_iter().chain(after).any(|(_, block)| {
+            self.map.area(block.base) == Some(area)
+                && meet(&footprint(area, block.base, block.length), &place)
+        });
+        if taken {
+            return Err(refusal::TAKEN);
+        }
+        self.blocks.insert(base, Block::unwritten(base, length));
+        Ok(NO_FIELDS)
+    }
+
+    fn free(&mut self, base: u32) -> Outcome {
+        self.map.area(base).ok_or(refusal::OUTSIDE)?;
+        self.blocks.remove(&base).ok_or(refusal::NO_BLOCK)?;
+        Ok(NO_FIELDS)
+    }
+
+    fn written(&mut self, address: u32, n: u32) -> Outcome {
+        not_zero(n)?;
+        self.map.area(address).ok_or(refusal::OUTSIDE)?;
+        let (_, block) = self
+            .blocks
+            .range_mut(..=address)
+            .next_back()
+            .filter(|(_, block)| block.holds(address, n))
+            .ok_or(refusal::NO_BLOCK)?;
+        block.marks(address, n).fill(true);
+        Ok(NO_FIELDS)
+    }
+
+    fn ask(&self, address: u32) -> Outcome {
+        self.map.area(address).ok_or(refusal::OUTSIDE)?;
+        let block = self.holder(address, 1).ok_or(refusal::NO_BLOCK)?;
+        let offset = address - block.base;
+        let written = u32::from(block.written[offset as usize]);
+        Ok([block.base, block.length, offset, written])
+    }
+
+    fn valid(&self, address: u32, n: u32, from: u32) -> Outcome {
+        not_zero(n)?;
+        let block = self.holder(address, n);
+        let same = block.is_some_and(|block| block.holds(from, 1));
+        Ok([u32::from(same), 0, 0, 0])
+    }
+
+    fn initialised(&self, address: u32, n: u32) -> Outcome {
+        not_zero(n)?;
+        let all_written = self.holder(address, n).is_some_and(|block| {
+            let offset = (address - block.base) as usize;
+            !block.written[offset..][..n as usize].contains(&false)
+        });
+        Ok([u32::from(all_written), 0, 0, 0])
+    }
+
+    fn next(&self, address: u32) -> Outcome {
+        let following = self.blocks.range(address..).next();
+        let (_, block) = following.ok_or(refusal::NO_BLOCK)?;
+        Ok([block.base, block.length, 0, 0])
+    }
+
+    /// The last block at or below the address is the only one that can hold it.
+    fn holder(&self, address: u32, n: u32) -> Option<&Block> {
+        let (_, block) = self.blocks.range(..=address).next_back()?;
+        Some(block).filter(|block| block.holds(address, n))
+    }
+}

@@ -1,0 +1,54 @@
+//! What several test files share.
+#![allow(dead_code)]
+
+use std::path::PathBuf;
+
+use model::bytes;
+use model::call::{Answer, Call};
+use model::image::Shadows;
+use model::map::Map;
+use model::notation::{examples, Example, OneCall, EXAMPLE_MAP};
+
+/// A file of tests/data.
+pub fn data(name: &str) -> Vec<u8> {
+    let path = PathBuf::from(env!("CARGO_MANIFEST_DIR"))
+        .join("tests/data")
+        .join(name);
+    std::fs::read(&path).unwrap_or_else(|error| panic!("{}: {error}", path.display()))
+}
+
+/// The examples of a file: remark, line, example.
+pub fn texts(name: &str) -> Vec<(String, String, Example)> {
+    let text = String::from_utf8(data(name)).expect("example files are text");
+    let found = examples(&text).into_iter();
+    found
+        .map(|(remark, line, example)| (remark.to_owned(), line.to_owned(), example))
+        .collect()
+}
+
+/// One call of the byte-level model.
+pub fn on(map: Map, shadows: &mut Shadows, call: Call) -> Answer {
+    bytes::call(
+        map,
+        &mut shadows.heap,
+        &mut shadows.primary,
+        &mut shadows.secondary,
+        call,
+    )
+}
+
+/// One example on the byte-level model: answer, stated bytes, and no change
+/// where none is due.
+pub fn on_bytes(line: &str, example: &OneCall) {
+    let mut shadows = example.shadows.clone();
+    let answer = on(EXAMPLE_MAP, &mut shadows, example.call);
+    assert_eq!(answer, example.answer, "{line}: {:?}", example.call);
+    if answer.number != 0 || example.call.only_looks() {
+        assert_eq!(shadows, example.shadows, "{line}: bytes changed");
+    }
+    for stated in &example.then {
+        let shadow = stated.shadow.of(&shadows);
+        let bytes = &shadow[stated.position..][..stated.bytes.len()];
+        assert_eq!(bytes, stated.bytes, "{line}: bytes afterwards");
+    }
+}

@@ -1,0 +1,38 @@
+//! Every example of the open points, and more on bytes that are no image.
+
+mod common;
+
+use common::{on_bytes, texts};
+use model::notation::Example;
+use model::plain_btree::PlainTree;
+use model::program::{run, run_on};
+
+fn text(bytes: Vec<u8>) -> String {
+    String::from_utf8(bytes).expect("lines are text")
+}
+
+fn check(name: &str) -> usize {
+    let found = texts(name);
+    let count = found.len();
+    for (remark, line, example) in found {
+        let line = format!("{remark} {line}");
+        match example {
+            Example::On(example) => on_bytes(&line, &example),
+            Example::Run { input, output } => {
+                assert_eq!(text(run(&input)), text(output.clone()), "{line}");
+                assert_eq!(text(run_on::<PlainTree>(&input)), text(output), "{line}");
+            }
+        }
+    }
+    count
+}
+
+#[test]
+fn every_example_of_the_open_points() {
+    assert_eq!(check("open-points.txt"), 46);
+}
+
+#[test]
+fn odd_bytes() {
+    assert_eq!(check("odd-bytes.txt"), 49);
+}

@@ -1,0 +1,138 @@
+//! The calls program: undecodable records, and random files on both lists.
+
+use model::call::Call;
+use model::generate::file::file;
+use model::image::Shadows;
+use model::map::Map;
+use model::plain_btree::PlainTree;
+use model::program::{decode, encode, run, run_on, Record};
+use model::random::Random;
+
+mod common;
+
+const MAP: [u32; 4] = [4096, 64, 8192, 32];
+
+fn text(input: &[u8]) -> String {
+    String::from_utf8(run(input)).expect("lines are text")
+}
+
+fn after_map(more: &[u8]) -> String {
+    let mut input = encode(1, &MAP);
+    input.extend(more);
+    text(&input)
+}
+
+#[test]
+fn the_bytes_of_a_record() {
+    assert_eq!(encode(9, &[]), [4, 0, 9, 0]);
+    assert_eq!(encode(3, &[4104]), [8, 0, 3, 0, 8, 16, 0, 0]);
+}
+
+#[test]
+fn lengths_are_those_of_the_kinds() {
+    let lengths = [20, 12, 8, 12, 8, 16, 12, 8, 4];
+    for (kind, right) in (1u16..).zip(lengths) {
+        for length in 0..40u16 {
+            let mut record = length.to_le_bytes().to_vec();
+            record.extend(kind.to_le_bytes());
+            record.resize(64, 0);
+            assert_eq!(
+                decode(&record).is_some(),
+                length == right,
+                "{kind} {length}"
+            );
+        }
+    }
+}
+
+#[test]
+fn a_cut_record_prints_nine_alone() {
+    let record = encode(2, &[4104, 20]);
+    for left in 1..record.len() {
+        assert_eq!(after_map(&record[..left]), "1 0\n9\n");
+    }
+    assert_eq!(after_map(&[]), "1 0\n");
+    assert_eq!(text(&[]), "");
+}
+
+#[test]
+fn nothing_is_read_after_nine() {
+    for bad in [
+        encode(0, &[]),
+        encode(10, &[4104, 1]),
+        encode(258, &[4104, 8]),
+        encode(2, &[4104]),
+        encode(9, &[0]),
+        vec![4, 1, 9, 0],
+        vec![0, 0, 9, 0],
+        vec![3, 0, 9, 0],
+    ] {
+        let mut input = bad.clone();
+        input.extend(encode(9, &[]));
+        assert_eq!(after_map(&input), "1 0\n9\n", "{bad:?}");
+    }
+}
+
+#[test]
+fn a_refused_audit_is_not_nine_alone() {
+    assert_eq!(text(&encode(9, &[])), "9 1\n");
+}
+
+/// The program once more, on the byte-level model instead of a list.
+fn run_on_bytes(mut input: &[u8]) -> Vec<u8> {
+    let mut map = Map::default();
+    let mut shadows = Shadows::cleared(map);
+    let mut output = String::new();
+    while !input.is_empty() {
+        let Some((record, rest)) = decode(input) else {
+            output += "9\n";
+            break;
+        };
+        input = rest;
+        match record {
+            Record::Map(new) => {
+                let number = match (new.good(), new.heap_size, new.stack_size) {
+                    (false, ..) => 1,
+                    (true, 0..=32_768, 0..=16_384) => 0,
+                    _ => 10,
+                };
+                if number == 0 {
+                    map = new;
+                    shadows = Shadows::cleared(map);
+                }
+                output += &format!("1 {number}\n");
+            }
+            Record::Call(kind, call) => {
+                output += &line_on_bytes(map, &mut shadows, kind, call);
+            }
+        }
+    }
+    output.into_bytes()
+}
+
+fn line_on_bytes(map: Map, shadows: &mut Shadows, kind: u16, call: Call) -> String {
+    let answer = common::on(map, shadows, call);
+    let mut words = vec![u32::from(kind), answer.number];
+    if answer.number == 0 {
+        words.extend(&answer.fields[..call.answer_fields()]);
+    }
+    let words: Vec<String> = words.iter().map(u32::to_string).collect();
+    words.join(" ") + "\n"
+}
+
+#[test]
+fn random_files() {
+    let mut ended_early = 0;
+    let mut too_large = 0;
+    for seed in 0..1500 {
+        println!("seed {seed}");
+        let input = file(&mut Random::new(seed), 200);
+        let output = run(&input);
+        assert_eq!(output, run_on::<PlainTree>(&input));
+        assert_eq!(output, run_on_bytes(&input));
+        let lines = String::from_utf8(output).expect("lines are text");
+        ended_early += u32::from(lines.ends_with("\n9\n"));
+        too_large += lines.lines().filter(|&line| line == "1 10").count();
+    }
+    assert!(ended_early > 100 && too_large > 100);
+}

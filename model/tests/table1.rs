@@ -1,0 +1,65 @@
+//! The codes of Table 1, in both directions and in the shadow bytes.
+
+mod common;
+
+use common::{data, on};
+use model::call::Call;
+use model::image::{stack_code, Shadows};
+use model::notation::EXAMPLE_MAP;
+use model::reading::short_block;
+
+fn table() -> Vec<(u8, u32, u32)> {
+    let text = String::from_utf8(data("table1.txt")).expect("the table is text");
+    let rows = text.lines().filter(|line| !line.starts_with('#'));
+    rows.map(|row| {
+        let numbers: Vec<u32> = row.split(' ').map(|word| word.parse().unwrap()).collect();
+        (numbers[0] as u8, numbers[1], numbers[2])
+    })
+    .collect()
+}
+
+#[test]
+fn codes_in_both_directions() {
+    let rows = table();
+    assert_eq!(rows.len(), 36);
+    for (index, (code, length, offset)) in rows.into_iter().enumerate() {
+        assert_eq!(usize::from(code), index + 1);
+        assert_eq!(stack_code(length, offset), code);
+        assert_eq!(short_block(code), (length, offset));
+    }
+}
+
+#[test]
+fn codes_in_the_primary_shadow() {
+    for (code, length, offset) in table() {
+        let mut shadows = Shadows::cleared(EXAMPLE_MAP);
+        let base = 8200;
+        on(EXAMPLE_MAP, &mut shadows, Call::Record { base, length });
+        assert_eq!(shadows.primary[8 + offset as usize], 4 * code);
+        let address = base + offset;
+        on(EXAMPLE_MAP, &mut shadows, Call::Written { address, n: 1 });
+        assert_eq!(shadows.primary[8 + offset as usize], 4 * code + 1);
+        let answer = on(EXAMPLE_MAP, &mut shadows, Call::Ask { address });
+        assert_eq!(
+            (answer.number, answer.fields),
+            (0, [base, length, offset, 1])
+        );
+        assert!(shadows.secondary.iter().all(|&byte| byte == 0));
+    }
+}
+
+#[test]
+fn codes_of_long_blocks_close_with_a_long_piece() {
+    for length in 9..=40 {
+        for offset in 0..length {
+            let pieces = length / 8;
+            let whole = offset / 8;
+            let expected = if whole < pieces {
+                48 + offset % 8
+            } else {
+                48 + 8 + offset % 8
+            };
+            assert_eq!(u32::from(stack_code(length, offset)), expected);
+        }
+    }
+}
