@@ -15,7 +15,7 @@ use Rattle.plain.specs.Rules.{Rules, Placed, Sound}
 use Rattle.plain.specs.Areas.{segments, heapRules}
 use Rattle.plain.specs.Found.{got, goesOn}
 use Rattle.plain.proofs.AreaLaws.{heap-sound}
-use Rattle.plain.proofs.LayerLaws.{placed-down}
+use Rattle.plain.proofs.KeptLaws.{weaken}
 use Rattle.heap_layout.specs.Image.{free, header, segment, segmentOf, heapByte}
 use Rattle.heap_layout.specs.Walk.{matches, heapWalk}
 use Rattle.heap_layout.proofs.SegmentLaws.{Sizes, some-segment, segments-gt, segments-last, Stands, stands}
@@ -115,7 +115,7 @@ module _ {W G size : ℕ} (z : Sizes W G size) (f : ℕ → ℕ) where
           rw (
             e,
             ih (suc s) (d + G) bs
-                (placed-down R S bs (b .base + segments G (len b) * G) (suc s * G)
+                (weaken R bs (b .base + segments G (len b) * G) (suc s * G)
                 (omega (arith, t .start, ap (λ (x : ℕ). x * G) q, ap (λ (x : ℕ). x * G) es)) P)
                 (shown-same W G f (segmentOf G (b ∷ bs)) (suc s) n (segmentOf G bs) (λ i x. first-after g size b bs t i (omega arith)) (shown-later W G f (segmentOf G (b ∷ bs)) s n h))
                 (omega arith),

@@ -16,7 +16,7 @@ use Rattle.plain.specs.Rules.{Rules, Placed, Sound}
 use Rattle.plain.specs.Areas.{segments, heapRules}
 use Rattle.plain.specs.Found.{Found, bad, got, goesOn, begins}
 use Rattle.plain.proofs.AreaLaws.{heap-sound}
-use Rattle.plain.proofs.LayerLaws.{placed-down}
+use Rattle.plain.proofs.KeptLaws.{weaken}
 use Rattle.heap_layout.specs.Image.{free, header, segment, segmentOf, heapByte}
 use Rattle.heap_layout.specs.Walk.{matches, marksAt, heapWalk}
 use Rattle.heap_layout.proofs.SegmentLaws.{segments-gt, segments-last, Stands, stands-rules}
@@ -70,7 +70,7 @@ module _ (W : ℕ) {G : ℕ} (g : 0 < G) (size : ℕ) (f : ℕ → ℕ) where
   free-step n s ms bs m r =
       record {
         no-marks = r .no-marks;
-        placed = placed-down R S bs (suc s * G) (s * G) (omega arith) (r .placed);
+        placed = weaken R bs (suc s * G) (s * G) (omega arith) (r .placed);
         shown = shown-more W G f (segmentOf G bs) s n
             (subst (Shows W G f s) (sym (low-free g size bs s (r .placed))) m) (r .shown);
       }
@@ -90,7 +90,7 @@ module _ (W : ℕ) {G : ℕ} (g : 0 < G) (size : ℕ) (f : ℕ → ℕ) where
               fits = q .0;
               aligned = q .1;
               room = omega arith;
-              later = placed-down R S cs ((suc s + segments G H) * G) (suc s * G + segments G (length m) * G)
+              later = weaken R cs ((suc s + segments G H) * G) (suc s * G + segments G (length m) * G)
                   (omega (arith, ap (λ (x : ℕ). segments G x * G) l)) (r .placed);
             };
         shown = shown-more W G f (segmentOf G (b ∷ cs)) s n (subst (Shows W G f s) (sym (first-header g size b cs t ∙ ap header l)) sh) (r .shown b refl l refl);
@@ -135,7 +135,7 @@ module _ (W : ℕ) {G : ℕ} (g : 0 < G) (size : ℕ) (f : ℕ → ℕ) where
         let e : segments G L ≡ suc j = segments-last g L j (omega arith) (omega arith) in
         record {
           long = omega (arith, length-append m m′, ap (λ (x : List Bool). length x) (r .no-marks));
-          placed = placed-down R S bs (suc s * G) ((suc k + segments G L) * G) (omega (arith, ap (λ (x : ℕ). x * G) e, ap (λ (x : ℕ). x * G) es)) (r .placed);
+          placed = weaken R bs (suc s * G) ((suc k + segments G L) * G) (omega (arith, ap (λ (x : ℕ). x * G) e, ap (λ (x : ℕ). x * G) es)) (r .placed);
           shown = λ b eb el em.
               shown-more W G f (segmentOf G (b ∷ bs)) s n (this (rw (r .no-marks, append-nil m) (take-all G m (omega arith))) b eb el em)
               (shown-same W G f (segmentOf G bs) (suc s) n (segmentOf G (b ∷ bs)) (λ t x. sym (first-after g size b bs (at-head b eb el) t (omega (arith, ap (segments G) el)))) (r .shown));

@@ -10,9 +10,10 @@ use lib.Dec.{ltb}
 use borrow.Author.Tests.{lt-ltb, ne-eqb, eq-eqb}
 use Rattle.number.proofs.TestLaws.{Test, is-true, is-false, test, not-both, false-of}
 use Rattle.plain.specs.Block.{Block, len, contains, markBlock}
-use Rattle.plain.specs.Blocks.{find, found, any, insert, remove, markOne}
+use Rattle.plain.specs.Blocks.{find, any, insert, remove, markOne}
 use Rattle.plain.specs.Rules.{Rules, meets, Placed, Sound}
 use Rattle.plain.specs.Layer.{layer}
+use Rattle.plain.proofs.KeptLaws.{any-false}
 use Rattle.plain.proofs.FindLaws.{keepIf}
 use Rattle.plain.proofs.ListLaws.{Has, here, there, find-has}
 
@@ -34,15 +35,6 @@ abbrev pub ownOf : {X : Type 0} → (Block → ℕ → X) → X → ℕ → Opti
 ownOf own z s none = z
 ownOf own z s (some b) = own b s
 
--- no block of the list is so
-pub any-false : (p : Block → Bool) (c : Block) (cs : List Block) → any p (c ∷ cs) ≡ false → (p c ≡ false) × (any p cs ≡ false)
-unfolding find
-any-false p c cs e = go (p c) refl e
-  where
-    go : (t : Bool) → p c ≡ t → found (cond t (some c) (find p cs)) ≡ false → (p c ≡ false) × (any p cs ≡ false)
-    go true q e = absurd (not-both true refl e)
-    go false q e = (q, e)
-
 module _ (R : Rules) (S : Sound R) where
   high-low : (b : Block) (from : ℕ) → Listed R from b → from ≤ R .high (b .base) (len b)
   high-low b from l = omega (arith, l .room, S .low-base (b .base) (len b) (l .fits), S .high-end (b .base) (len b))
@@ -61,11 +53,6 @@ module _ (R : Rules) (S : Sound R) where
   listed from P (here {bs = bs}) = first _ bs from P
   listed {b} from P (there {c = c} {bs = cs} h) =
       lower b (R .high (c .base) (len c)) from (high-low c from (first c cs from P)) (listed (R .high (c .base) (len c)) (P .later) h)
-
-  -- a list may be placed further down
-  pub placed-down : (bs : List Block) (from less : ℕ) → less ≤ from → Placed R from bs → Placed R less bs
-  placed-down [] from less h P = tt
-  placed-down (c ∷ cs) from less h P = record { some = P .some; fits = P .fits; aligned = P .aligned; room = omega (arith, P .room); later = P .later }
 
   module _ (covers : Block → ℕ → Bool) (pos : ℕ → ℕ) (F : InFoot R covers pos) (s : ℕ) where
     -- a block that is listed at or after `from` covers no place before it
