@@ -20,12 +20,12 @@ use Rattle.plain.proofs.SameLaws.{step-same}
 use Rattle.plain.proofs.RunLaws.{keep, low, run-same, run-each}
 use Rattle.heap_layout.specs.Image.{heapImage}
 use Rattle.stack_layout.specs.Image.{stackImage}
-use Rattle.shadows.specs.Shadows.{shadowOps, image}
+use Rattle.shadows.specs.Shadows.{zeroShadows, shadowOps, image}
 use Rattle.shadows.proofs.ShadowLaws.{image-fits, map-sound, shadow-images}
 use Rattle.monitor_base.specs.Calls as monitor
 use Rattle.monitor_base.proofs.CallLaws.{call-early, call-step}
 use Rattle.calls_format.specs.Records.{Request, newMap, call}
-use Rattle.calls_format.specs.Running.{aboveSizes, mapNumber, mapAfter, State, zeroShadows, firstState, serve, PlainState, firstPlain, servePlain, imageOf, SameRun, NeverDamaged}
+use Rattle.calls_format.specs.Running.{aboveSizes, mapNumber, mapAfter, State, firstState, serve, PlainState, firstPlain, servePlain, imageOf, SameRun, NeverDamaged}
 
 -- ---- a new map
 

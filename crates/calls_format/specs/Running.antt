@@ -4,7 +4,6 @@ use mathlib.Core.Bool.{Bool, cond, not, _||_}
 use mathlib.Core.List.{List, [], _∷_}
 use mathlib.Core.Logic.{_≢_}
 use Prim.Native.Nat.{ℕ}
-use lib.ListN.{replicate}
 use lib.Dec.{ltb, eqb}
 use Rattle.number.specs.Parts.{Each}
 use Rattle.map.specs.declared.Map.{Map}
@@ -14,7 +13,7 @@ use Rattle.plain.specs.Areas.{mapRules}
 use Rattle.plain.specs.Call.{Answer, number, Refusal, refusal, done, firstOf, unless}
 use Rattle.plain.specs.PlainList.{plainStep}
 use Rattle.plain.specs.Run.{run}
-use Rattle.shadows.specs.Shadows.{Shadows, image}
+use Rattle.shadows.specs.Shadows.{zeroShadows, Shadows, image}
 use Rattle.monitor_base.specs.Calls as monitor
 use Rattle.calls_format.specs.Records.{Request, newMap, call}
 
@@ -41,9 +40,6 @@ mapAfter old new = cond (eqb (mapNumber new) 0) new old
 -- the map, and shadows as long as its areas
 abbrev pub State : Type 0
 State = Map × Shadows
-
-abbrev pub zeroShadows : Map → Shadows
-zeroShadows m = (replicate (m .«heap_size») 0, (replicate (m .«stack_size») 0, replicate (m .«stack_size») 0))
 
 -- before any map the map is all zeros
 abbrev pub zeroMap : Map

@@ -6,7 +6,6 @@ use mathlib.Core.Path.{_≡_}
 use mathlib.Core.Bool.{true}
 use mathlib.Core.List.{List, []}
 use Prim.Native.Nat.{_<_}
-use lib.ListN.{replicate}
 use Rattle.number.specs.Parts.{Each}
 use Rattle.map.specs.declared.Map.{Map}
 use Rattle.map.specs.Map.{goodMap}
@@ -16,12 +15,8 @@ use Rattle.plain.specs.Areas.{mapRules}
 use Rattle.plain.specs.Call.{Call, Answer, number}
 use Rattle.plain.specs.PlainList.{plainStep}
 use Rattle.plain.specs.Run.{run}
-use Rattle.shadows.specs.Shadows.{Shadows, image}
+use Rattle.shadows.specs.Shadows.{Shadows, zeroShadows, image}
 use Rattle.monitor_base.specs.Calls.{call}
-
--- cleared shadows: all zeros, each as long as its area
-abbrev pub zeroShadows : Map → Shadows
-zeroShadows m = (replicate (m .«heap_size») 0, (replicate (m .«stack_size») 0, replicate (m .«stack_size») 0))
 
 -- the answer and every shadow byte after each call, each call on what the one before left
 abbrev pub shadowRun : Map → Shadows → List Call → List (Answer × Shadows)

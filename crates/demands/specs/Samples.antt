@@ -7,9 +7,8 @@ use lib.Dec.{eqb}
 use Rattle.number.specs.Parts.{at}
 use Rattle.map.specs.declared.Map.{Map}
 use Rattle.plain.specs.Call.{Call, clear, record-block, free, written, ask, valid, initialised, next, audit, Answer, answer, refusal, done}
-use Rattle.shadows.specs.Shadows.{Shadows}
+use Rattle.shadows.specs.Shadows.{Shadows, zeroShadows}
 use Rattle.monitor_base.specs.Calls.{call}
-use Rattle.demands.specs.Demand3.{zeroShadows}
 
 -- calls on cleared shadows under one map, the answer of each, and the bytes of each shadow afterwards from a position on
 pub record Sample : Type 0 where

@@ -50,9 +50,6 @@ eqb-same a b c d f g =
 pub cond-true : {A : Type 0} (c : Bool) (x y : A) → c ≡ true → cond c x y ≡ x
 cond-true c x y e = rw e
 
-pub cond-false : {A : Type 0} (c : Bool) (x y : A) → c ≡ false → cond c x y ≡ y
-cond-false c x y e = rw e
-
 -- ---- lo ≤ p < hi, as a test
 
 pub in-true : (lo hi p : ℕ) → lo ≤ p → p < hi → (leb lo p && ltb p hi) ≡ true

@@ -2,7 +2,7 @@
 use mathlib.Core.Bool.{Bool, cond, _&&_}
 use mathlib.Core.List.{List, [], map}
 use Prim.Native.Nat.{ℕ, _-_}
-use lib.ListN.{length}
+use lib.ListN.{length, replicate}
 use lib.Dec.{eqb}
 use Rattle.number.specs.Parts.{at}
 use Rattle.map.specs.declared.Map.{Map}
@@ -27,6 +27,10 @@ Shadows = List ℕ × (List ℕ × List ℕ)
 -- each shadow is as long as its area
 unfoldable pub lengthsFit : Map → Shadows → Bool
 lengthsFit m s = eqb (length (s .0)) (m .«heap_size») && eqb (length (s .1 .0)) (m .«stack_size») && eqb (length (s .1 .1)) (m .«stack_size»)
+
+-- cleared shadows: all zeros, each as long as its area
+abbrev pub zeroShadows : Map → Shadows
+zeroShadows m = (replicate (m .«heap_size») 0, (replicate (m .«stack_size») 0, replicate (m .«stack_size») 0))
 
 -- the heap layout with four-byte numbers and 8-byte segments, and the stack layout, each from its area's start on
 abbrev pub shadowOps : Map → Ops Shadows

@@ -4,11 +4,11 @@ use mathlib.Core.Bool.{Bool, true, false, cond}
 use Prim.Native.Nat.{ℕ, _+_, _*_, _-_, _/_, _%_, _^_, _≤_, _<_}
 use native.Mathlib.Omega.{arith}
 use native.Mathlib.Nat.{add-sub-cancel-left}
-use lib.Dec.{leb, ltb}
+use lib.Dec.{leb}
 use borrow.Author.Tests.{lt-ltb, le-ltb, lt-leb, leb-true, leb-false}
-use Rattle.number.specs.Little.{byteOf, word}
+use Rattle.number.specs.Little.{word}
 use Rattle.number.proofs.TestLaws.{Test, is-true, is-false, test}
-use Rattle.number.proofs.LittleLaws.{word-of, byteOf-lt}
+use Rattle.number.proofs.LittleLaws.{word-of}
 use Rattle.stack_layout.specs.Code.{shortCode, pieceOf, codeOf, pieceByte, primaryOf, secondaryOf}
 use Rattle.stack_layout.proofs.TableLaws.{encoded}
 
@@ -78,23 +78,6 @@ code-lt L i h = go (test (leb L 8))
     go : Test (leb L 8) → cond (leb L 8) (shortCode L i) (48 + (i - pieceOf L i)) < 63
     go (is-true e) = rw e (omega (arith, encoded L i (leb-true L 8 e) h .most))
     go (is-false e) = rw e (omega (arith, piece L i (leb-false L 8 e) h .near))
-
-pub primary-lt : (L i m : ℕ) → i < L → m < 2 → primaryOf L i m < 256
-unfolding primaryOf
-primary-lt L i m h k = omega (arith, code-lt L i h)
-
-pub secondary-lt : (L i : ℕ) → secondaryOf L i < 256
-unfolding secondaryOf pieceByte
-secondary-lt L i = go (leb L 8) (ltb j 4) (ltb j 8)
-  where
-    j : ℕ
-    j = i - pieceOf L i
-
-    go : (a b c : Bool) → cond a 0 (cond b (byteOf L j) (cond c (byteOf (pieceOf L i) (j - 4)) 0)) < 256
-    go true b c = omega arith
-    go false true c = byteOf-lt L j
-    go false false true = byteOf-lt (pieceOf L i) (j - 4)
-    go false false false = omega arith
 
 -- ---- a primary byte taken apart
 
