@@ -1,3 +1,4 @@
 pub mod RecordLaws
 pub mod LineLaws
 pub mod RunningLaws
+pub mod KeptLaws

@@ -1,12 +1,10 @@
 -- The run of the calls program is that of the plain list, for every list of requests. Assumes nothing.
 use mathlib.Core.Path.{_≡_, refl, sym, ap, _∙_}
-use mathlib.Core.Bool.{true, cond}
+use mathlib.Core.Bool.{true}
 use mathlib.Core.List.{List, []}
 use mathlib.Core.Logic.{_≢_}
 use Prim.Native.Nat.{ℕ, zero, suc}
 use native.Mathlib.Omega.{arith}
-use lib.Dec.{eqb}
-use borrow.Author.Tests.{ne-eqb}
 use Rattle.number.specs.Parts.{tab}
 use Rattle.number.proofs.TestLaws.{Test, is-true, is-false, test}
 use Rattle.map.specs.declared.Map.{Map}
@@ -14,7 +12,7 @@ use Rattle.map.specs.Map.{goodMap}
 use Rattle.plain.specs.Block.{Block}
 use Rattle.plain.specs.Rules.{Placed}
 use Rattle.plain.specs.Areas.{mapRules}
-use Rattle.plain.specs.Call.{number, done, unless, refusal}
+use Rattle.plain.specs.Call.{number, done, unless}
 use Rattle.plain.specs.Run.{run}
 use Rattle.plain.proofs.SameLaws.{step-same}
 use Rattle.plain.proofs.RunLaws.{keep, low, run-same, run-each}
@@ -25,15 +23,9 @@ use Rattle.shadows.proofs.ShadowLaws.{image-fits, map-sound, shadow-images}
 use Rattle.monitor_base.specs.Calls as monitor
 use Rattle.monitor_base.proofs.CallLaws.{call-early, call-step}
 use Rattle.calls_format.specs.Records.{Request, newMap, call}
-use Rattle.calls_format.specs.Running.{aboveSizes, mapNumber, mapAfter, State, firstState, serve, PlainState, firstPlain, servePlain, imageOf, SameRun, NeverDamaged}
+use Rattle.calls_format.specs.Running.{aboveSizes, mapNumber, State, firstState, serve, PlainState, firstPlain, servePlain, imageOf, SameRun, NeverDamaged}
 
 -- ---- a new map
-
-pub map-taken : (old new : Map) → mapNumber new ≡ 0 → mapAfter old new ≡ new
-map-taken old new e = rw e
-
-pub map-kept : (old new : Map) → mapNumber new ≢ 0 → mapAfter old new ≡ old
-map-kept old new n = rw (ne-eqb (mapNumber new) 0 n)
 
 -- an accepted map is good
 pub accepted-good : (m : Map) → mapNumber m ≡ 0 → goodMap m ≡ true
@@ -42,15 +34,6 @@ accepted-good m = go (test (goodMap m))
     go : Test (goodMap m) → mapNumber m ≡ 0 → goodMap m ≡ true
     go (is-true g) e = g
     go (is-false g) e = absurd (omega (arith, rw g at e))
-
--- what is answered to a new map, and what is left: the map and the number are those that the program's code gives
-pub served-map : (m : Map) (s : State) → (serve (newMap m) s .0 .0 ≡ mapAfter (s .0) m) × (serve (newMap m) s .1 ≡ refusal (mapNumber m))
-unfolding serve
-served-map m s = go (mapNumber m)
-  where
-    go : (k : ℕ) → (unless k s ((m, zeroShadows m), done) .0 .0 ≡ cond (eqb k 0) m (s .0)) × (unless k s ((m, zeroShadows m), done) .1 ≡ refusal k)
-    go zero = (refl, refl)
-    go (suc k) = (rw (ne-eqb (suc k) 0 (omega arith)), refl)
 
 -- ---- every list of requests
 

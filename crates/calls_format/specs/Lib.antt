@@ -3,3 +3,4 @@ pub mod Decoded
 pub mod Lines
 pub mod Writing
 pub mod Running
+pub mod Kept

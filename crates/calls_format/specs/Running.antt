@@ -4,7 +4,7 @@ use mathlib.Core.Bool.{Bool, cond, not, _||_}
 use mathlib.Core.List.{List, [], _∷_}
 use mathlib.Core.Logic.{_≢_}
 use Prim.Native.Nat.{ℕ}
-use lib.Dec.{ltb, eqb}
+use lib.Dec.{ltb}
 use Rattle.number.specs.Parts.{Each}
 use Rattle.map.specs.declared.Map.{Map}
 use Rattle.map.specs.Map.{goodMap}
@@ -30,10 +30,6 @@ mapRefusals m = (1, not (goodMap m)) ∷ (10, aboveSizes m) ∷ []
 -- the number that a new map is answered with, 0 where it is accepted
 abbrev pub mapNumber : Map → ℕ
 mapNumber m = firstOf (mapRefusals m)
-
--- a refused map keeps the old one
-abbrev pub mapAfter : (old new : Map) → Map
-mapAfter old new = cond (eqb (mapNumber new) 0) new old
 
 -- ---- the run on shadows
 

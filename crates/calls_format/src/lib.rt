@@ -1,4 +1,4 @@
-// Records and lines of the calls program, and the map that it holds.
+// Records and lines of the calls program, and what it keeps between them.
 pub mod lines;
 pub mod records;
-pub mod running;
+pub mod serving;

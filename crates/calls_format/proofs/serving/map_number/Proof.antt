@@ -1,8 +1,8 @@
--- `calls_format::running::map_number` meets its contract. Assumes nothing.
+-- `calls_format::serving::map_number` meets its contract. Assumes nothing.
 use borrow.Author.Tests.{not-true, not-false}
 use borrow.Author.Needs.{needs}
-use Rattle.calls_format.proofs.running.map_number.Statement.{statement}
-use Rattle.calls_format.proofs.running.map_number.Tie as tie
+use Rattle.calls_format.proofs.serving.map_number.Statement.{statement}
+use Rattle.calls_format.proofs.serving.map_number.Tie as tie
 
 good-requires : tie.Need-good-requires
 good-requires c κs = search needs

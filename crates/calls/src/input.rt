@@ -1,0 +1,109 @@
+// Standard input through a buffer: wherever the reads end, a record is whole in it.
+ghost use Prim.Native.Nat.{_+_, _-_, _≤_};
+ghost use lib.ListN.{length};
+ghost use Rattle.calls.specs.Buffers.{Held};
+use calls_format::records;
+use calls_format::records::Decoded;
+use libc::STDIN_FILENO;
+
+// The longest record.
+const LONGEST: usize = 20;
+
+// The bytes of the buffer that are read and not yet taken, and whether the input may have more.
+pub struct Window {
+    pub at: usize,
+    pub end: usize,
+    pub more: bool,
+}
+
+// One read; 0 where the input has ended or cannot be read.
+fn read_some(room: &mut [u8]) -> usize
+    ensures { λ r. ⌜ r ≤ length (now (room .entry)) ⌝ }
+{
+    let got = libc::read(STDIN_FILENO, room);
+    io::count(got, room)
+}
+
+// Moves what is left to the buffer's start.
+fn settle(buffer: &mut [u8], at: usize, end: usize)
+    requires { ⌜ (at ≤ end) × (end ≤ length (now buffer)) ⌝ }
+{
+    for i in 0..end - at {
+        buffer[i] = buffer[at + i];
+    }
+}
+
+// Reads on behind what is left, until a record is whole or the input ends. Each read brings a byte at least.
+fn read_on(buffer: &mut [u8], w: Window) -> Window
+    requires { ⌜ Held w (length (now buffer)) ⌝ }
+    ensures { λ r. ⌜ Held r (length (now (buffer .entry))) ⌝ }
+{
+    let at = w.at;
+    let end = w.end;
+    settle(buffer, at, end);
+    let mut filled = end - at;
+    let mut more = true;
+    for _ in 0..LONGEST {
+        if LONGEST <= filled {
+            break;
+        }
+        let got = read_some(&mut buffer[filled..]);
+        if got == 0 {
+            more = false;
+            break;
+        }
+        filled += got;
+    }
+    Window {
+        at: 0,
+        end: filled,
+        more,
+    }
+}
+
+// The window with a whole record in it, where the input has one.
+pub fn refill(buffer: &mut [u8; 65536], w: Window) -> Window
+    requires { ⌜ Held w 65536 ⌝ }
+    ensures { λ r. ⌜ Held r 65536 ⌝ }
+{
+    if w.more {
+        if w.end - w.at < LONGEST {
+            return read_on(buffer, w);
+        }
+    }
+    w
+}
+
+fn decode_in(buffer: &[u8], w: Window) -> Decoded
+    requires { ⌜ Held w (length (now buffer)) ⌝ }
+{
+    let at = w.at;
+    let end = w.end;
+    records::decode(&buffer[at..end])
+}
+
+// The record that the window begins with.
+pub fn next(buffer: &[u8; 65536], w: Window) -> Decoded
+    requires { ⌜ Held w 65536 ⌝ }
+{
+    decode_in(buffer, w)
+}
+
+// The window past a record.
+pub fn past(w: Window, length: usize) -> Window
+    requires { ⌜ Held w 65536 ⌝ }
+    ensures { λ r. ⌜ Held r 65536 ⌝ }
+{
+    if w.end - w.at < length {
+        return Window {
+            at: w.end,
+            end: w.end,
+            more: w.more,
+        };
+    }
+    Window {
+        at: w.at + length,
+        end: w.end,
+        more: w.more,
+    }
+}
