@@ -1,0 +1,144 @@
+//! The kinds of records. A new kind is a new row of [`KINDS`], and nothing else here.
+
+/// A kind of record: its word in text, its fields, and what its line says.
+pub struct Kind {
+    pub number: u16,
+    pub word: &'static str,
+    /// Names of the record's fields, four bytes each.
+    pub fields: &'static [&'static str],
+    /// Names of the answer fields of an accepted call.
+    pub answers: &'static [&'static str],
+    /// What an accepted line says; takes the fields, then the answer fields.
+    pub told: fn(&[u32], &[u32]) -> String,
+}
+
+pub const KINDS: &[Kind] = &[
+    Kind {
+        number: 1,
+        word: "map",
+        fields: &["heap start", "heap size", "stack start", "stack size"],
+        answers: &[],
+        told: |f, _| {
+            let (heap, stack) = (range(f[0], f[1]), range(f[2], f[3]));
+            format!("accepted: heap {heap}, stack {stack}, no block")
+        },
+    },
+    Kind {
+        number: 2,
+        word: "record",
+        fields: &["base", "length"],
+        answers: &[],
+        told: |f, _| format!("recorded: a block at {} of {}", f[0], count(f[1], "byte")),
+    },
+    Kind {
+        number: 3,
+        word: "free",
+        fields: &["base"],
+        answers: &[],
+        told: |f, _| format!("freed: the block at {}", f[0]),
+    },
+    Kind {
+        number: 4,
+        word: "written",
+        fields: &["address", "n"],
+        answers: &[],
+        told: |f, _| format!("marked as written: {}", range(f[0], f[1])),
+    },
+    Kind {
+        number: 5,
+        word: "ask",
+        fields: &["address"],
+        answers: &["base", "length", "offset", "written"],
+        told: |_, a| {
+            let (bytes, written) = (count(a[1], "byte"), either(a[3], "written", "not written"));
+            format!(
+                "in the block at {} of {bytes}, offset {}, {written}",
+                a[0], a[2]
+            )
+        },
+    },
+    Kind {
+        number: 6,
+        word: "valid",
+        fields: &["address", "n", "from"],
+        answers: &["same block"],
+        told: |f, a| {
+            let said = either(a[0], "yes, in one block:", "no, not in one block:");
+            format!("{said} {} and {}", range(f[0], f[1]), f[2])
+        },
+    },
+    Kind {
+        number: 7,
+        word: "initialised",
+        fields: &["address", "n"],
+        answers: &["all written"],
+        told: |f, a| {
+            let said = either(
+                a[0],
+                "yes, in one block and all written:",
+                "no, not in one block or not all written:",
+            );
+            format!("{said} {}", range(f[0], f[1]))
+        },
+    },
+    Kind {
+        number: 8,
+        word: "next",
+        fields: &["address"],
+        answers: &["base", "length"],
+        told: |f, a| {
+            let bytes = count(a[1], "byte");
+            format!("the first block from {} on: at {} of {bytes}", f[0], a[0])
+        },
+    },
+    Kind {
+        number: 9,
+        word: "audit",
+        fields: &[],
+        answers: &["heap blocks", "stack blocks", "live bytes", "written bytes"],
+        told: |_, a| {
+            let (heap, stack) = (count(a[0], "heap block"), count(a[1], "stack block"));
+            let live = count(a[2], "live byte");
+            format!("{heap}, {stack}, {live}, {} of them written", a[3])
+        },
+    },
+];
+
+impl Kind {
+    /// The length of a record of this kind: length, kind and fields.
+    pub fn length(&self) -> usize {
+        4 + 4 * self.fields.len()
+    }
+
+    /// The kind of a number, if there is one.
+    pub fn of_number(number: u16) -> Option<&'static Kind> {
+        KINDS.iter().find(|kind| kind.number == number)
+    }
+
+    /// The kind of a word, if there is one.
+    pub fn of_word(word: &str) -> Option<&'static Kind> {
+        KINDS.iter().find(|kind| kind.word == word)
+    }
+}
+
+/// "1 byte", "2 bytes".
+pub fn count(n: u32, thing: &str) -> String {
+    let many = if n == 1 { "" } else { "s" };
+    format!("{n} {thing}{many}")
+}
+
+/// First and last address, in whole numbers, since n may be any.
+fn range(start: u32, n: u32) -> String {
+    if n <= 1 {
+        return start.to_string();
+    }
+    let last = u64::from(start) + u64::from(n) - 1;
+    format!("{start} to {last}")
+}
+
+fn either(flag: u32, yes: &'static str, no: &'static str) -> &'static str {
+    match flag {
+        0 => no,
+        _ => yes,
+    }
+}

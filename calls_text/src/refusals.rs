@@ -1,0 +1,38 @@
+//! The numbers of refusal in words.
+
+/// A number, the words that it is for (none: all the others), what it says. The first row that fits holds.
+pub const REFUSALS: &[(u32, &[&str], &str)] = &[
+    (1, &["map"], "the map breaks a rule; the one before stays"),
+    (1, &[], "no good map yet"),
+    (2, &[], "a shadow's length differs from its area's"),
+    (3, &["record"], "the length is 0"),
+    (3, &[], "n is 0"),
+    (
+        4,
+        &["record"],
+        "base in neither area, or the block or its header does not fit there",
+    ),
+    (4, &[], "address in neither area"),
+    (5, &[], "a heap base must be a multiple of 8"),
+    (6, &[], "some shadow byte of the place is not zero"),
+    (7, &["free"], "no block has this base"),
+    (7, &["written"], "the bytes are not in one block"),
+    (7, &["next"], "no block follows"),
+    (7, &[], "no block there"),
+    (8, &["audit"], "the shadows are no image"),
+    (8, &[], "a reading is damaged"),
+    (
+        10,
+        &[],
+        "a good map, above the program's sizes; the one before stays",
+    ),
+];
+
+/// What a number says of a call; a number of no row is told as such.
+pub fn refusal(word: &str, number: u32) -> String {
+    let row = REFUSALS
+        .iter()
+        .find(|(n, words, _)| *n == number && (words.is_empty() || words.contains(&word)));
+    let said = row.map_or("no number of this call", |(_, _, said)| said);
+    format!("refused by {number}: {said}")
+}

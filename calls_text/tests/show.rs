@@ -1,0 +1,175 @@
+//! Input beside output: what each line means, and lines that cannot be right.
+
+mod common;
+
+use calls_text::kinds::KINDS;
+use calls_text::refusals::refusal;
+use calls_text::show::{show, Shown};
+use calls_text::text::{parse, Parsed};
+use common::{bytes, examples};
+
+fn shown(text: &str, output: &str) -> Shown {
+    show(&parse("x", text).expect("text"), output)
+}
+
+/// The meaning of one line as the line of one record.
+fn meaning(record: &str, line: &str) -> String {
+    let shown = shown(record, line);
+    assert_eq!(shown.wrong, 0, "{}", shown.text);
+    let row = shown.text.lines().nth(1).expect("a row");
+    let (_, meaning) = row.split_once(&format!("  {line}  ")).expect("the line");
+    meaning.trim().to_owned()
+}
+
+#[test]
+fn accepted_lines() {
+    assert_eq!(
+        meaning("map 4096 64 8192 32", "1 0"),
+        "accepted: heap 4096 to 4159, stack 8192 to 8223, no block"
+    );
+    assert_eq!(
+        meaning("record 4104 20", "2 0"),
+        "recorded: a block at 4104 of 20 bytes"
+    );
+    assert_eq!(meaning("free 4104", "3 0"), "freed: the block at 4104");
+    assert_eq!(
+        meaning("written 4108 6", "4 0"),
+        "marked as written: 4108 to 4113"
+    );
+    assert_eq!(
+        meaning("ask 4113", "5 0 4104 20 9 1"),
+        "in the block at 4104 of 20 bytes, offset 9, written"
+    );
+    assert_eq!(
+        meaning("ask 8205", "5 0 8205 1 0 0"),
+        "in the block at 8205 of 1 byte, offset 0, not written"
+    );
+    assert_eq!(
+        meaning("valid 8200 6 8195", "6 0 1"),
+        "yes, in one block: 8200 to 8205 and 8195"
+    );
+    assert_eq!(
+        meaning("valid 8193 4294967295 1", "6 0 0"),
+        "no, not in one block: 8193 to 4294975487 and 1"
+    );
+    assert_eq!(
+        meaning("initialised 5 2", "7 0 1"),
+        "yes, in one block and all written: 5 to 6"
+    );
+    assert_eq!(
+        meaning("initialised 5 1", "7 0 0"),
+        "no, not in one block or not all written: 5"
+    );
+    assert_eq!(
+        meaning("next 4105", "8 0 4136 4"),
+        "the first block from 4105 on: at 4136 of 4 bytes"
+    );
+    assert_eq!(
+        meaning("audit", "9 0 2 1 35 6"),
+        "2 heap blocks, 1 stack block, 35 live bytes, 6 of them written"
+    );
+}
+
+#[test]
+fn refused_lines() {
+    assert_eq!(
+        meaning("record 4128 4", "2 6"),
+        "refused by 6: some shadow byte of the place is not zero"
+    );
+    assert_eq!(meaning("ask 4124", "5 7"), "refused by 7: no block there");
+    assert_eq!(
+        meaning("free 4105", "3 7"),
+        "refused by 7: no block has this base"
+    );
+    assert_eq!(
+        meaning("map 0 0 0 0", "1 1"),
+        "refused by 1: the map breaks a rule; the one before stays"
+    );
+    assert_eq!(meaning("audit", "9 1"), "refused by 1: no good map yet");
+    assert_eq!(refusal("ask", 77), "refused by 77: no number of this call");
+}
+
+#[test]
+fn an_undecodable_record() {
+    assert_eq!(
+        meaning("raw 04 00 00 01", "9"),
+        "undecodable, the run ends: kind 256 is unknown"
+    );
+    let long = shown("raw 00 01 02 03 04 05 06 07 08 09", "9\n").text;
+    assert!(
+        long.contains("raw 00 01 02 03 04 05 06 07 ..  9 "),
+        "{long}"
+    );
+}
+
+#[test]
+fn lines_that_cannot_be_right() {
+    for (text, output) in [
+        ("ask 1", ""),
+        ("ask 1", "9\n"),
+        ("ask 1", "5\n"),
+        ("ask 1", "6 7\n"),
+        ("ask 1", "5 0\n"),
+        ("ask 1", "5 7 0\n"),
+        ("ask 1", "5 0 1 2 3 4 5\n"),
+        ("ask 1", "5 x\n"),
+        ("ask 1", "5  7\n"),
+        ("ask 1", "5 7\n5 7\n"),
+        ("", "9\n"),
+        ("raw 00", ""),
+        ("raw 00", "9 1\n"),
+        ("raw 00", "9\n9\n"),
+    ] {
+        let shown = shown(text, output);
+        assert_eq!(shown.wrong, 1, "{text} with {output:?}:\n{}", shown.text);
+        assert_eq!(shown.text.matches("WRONG").count(), 1);
+    }
+}
+
+#[test]
+fn remarks_stand_before_their_records() {
+    let text = shown(
+        "# one\nask 1 # beside\n# two\n# three\naudit\n# end",
+        "5 1\n9 1\n",
+    )
+    .text;
+    let lines: Vec<&str> = text.lines().map(str::trim).collect();
+    let starts = [
+        "input", "# one", "1  ask 1", "# two", "# three", "2  audit", "# end",
+    ];
+    assert_eq!(lines.len(), starts.len(), "{text}");
+    for (line, start) in lines.iter().zip(starts) {
+        assert!(line.starts_with(start), "{text}");
+    }
+}
+
+/// No stored output has a line without a meaning, so every number that arises has its words.
+#[test]
+fn every_stored_output_has_meanings() {
+    let mut files = examples();
+    files.retain(|(name, _)| name != "empty");
+    let traces = ["sha1", "sorts"].map(|name| format!("model/tests/data/{name}"));
+    let outputs = files
+        .iter()
+        .map(|(name, _)| format!("examples/calls/{name}"));
+    let outputs: Vec<String> = outputs.chain(traces.clone()).collect();
+    let mut inputs: Vec<Vec<u8>> = files.into_iter().map(|(_, file)| file).collect();
+    inputs.extend(traces.map(|name| bytes(&format!("{name}.calls"))));
+    for (name, file) in outputs.iter().zip(inputs) {
+        let output = String::from_utf8(bytes(&format!("{name}.expected"))).expect("lines are text");
+        let remarks = Vec::new();
+        let shown = show(&Parsed { file, remarks }, &output);
+        assert_eq!(shown.wrong, 0, "{name}:\n{}", shown.text);
+        assert!(!shown.text.contains("no number of this call"), "{name}");
+    }
+}
+
+#[test]
+fn words_and_numbers_are_told_apart() {
+    for (place, kind) in KINDS.iter().enumerate() {
+        let same = |other: &&calls_text::kinds::Kind| {
+            other.word == kind.word || other.number == kind.number
+        };
+        assert_eq!(KINDS.iter().filter(same).count(), 1, "row {place}");
+    }
+}

@@ -1,0 +1,214 @@
+//! Text to a calls file and back, and the messages for bad text.
+
+mod common;
+
+use calls_text::kinds::KINDS;
+use calls_text::records::Stop;
+use calls_text::text::{parse, text};
+use common::{bytes, calls, examples};
+use model::generate::file::file;
+use model::program::encode;
+use model::random::Random;
+
+fn errors(text: &str) -> String {
+    parse("x.txt", text).expect_err("bad text").join("\n")
+}
+
+fn stop(file: &[u8]) -> Stop {
+    text(file).1.expect("a file that does not decode")
+}
+
+/// A file's text gives the file again, whatever its bytes.
+fn round_trip(file: &[u8]) -> String {
+    let (written, _) = text(file);
+    assert_eq!(calls("round trip", &written), file, "{written}");
+    written
+}
+
+#[test]
+fn each_word_is_its_record() {
+    let file = calls("x", "map 1 2 3 4\nrecord 5 6\nfree 7\nwritten 8 9\nask 10\nvalid 11 12 13\ninitialised 14 15\nnext 16\naudit");
+    let mut expected = encode(1, &[1, 2, 3, 4]);
+    expected.extend(encode(2, &[5, 6]));
+    expected.extend(encode(3, &[7]));
+    expected.extend(encode(4, &[8, 9]));
+    expected.extend(encode(5, &[10]));
+    expected.extend(encode(6, &[11, 12, 13]));
+    expected.extend(encode(7, &[14, 15]));
+    expected.extend(encode(8, &[16]));
+    expected.extend(encode(9, &[]));
+    assert_eq!(file, expected);
+}
+
+#[test]
+fn numbers_remarks_and_bytes() {
+    let file = calls(
+        "x",
+        "\n# all\r\n  free 0x1008  # hexadecimal\n\tfree 4294967295\r\nraw 0C 00 ff#bytes\n\n",
+    );
+    assert_eq!(
+        file,
+        [8, 0, 3, 0, 8, 16, 0, 0, 8, 0, 3, 0, 255, 255, 255, 255, 12, 0, 255]
+    );
+    assert!(calls("x", "# only a remark").is_empty());
+    assert!(calls("x", "").is_empty());
+}
+
+#[test]
+fn messages_name_file_and_line() {
+    assert_eq!(
+        errors("audit\n\nrecord 4104"),
+        "x.txt:3: record takes 2 numbers (base, length), got 1"
+    );
+    assert_eq!(errors("free"), "x.txt:1: free takes 1 number (base), got 0");
+    assert_eq!(
+        errors("audit 1 2"),
+        "x.txt:1: audit takes no numbers, got 2"
+    );
+    assert_eq!(
+        errors("map 1 2 3"),
+        "x.txt:1: map takes 4 numbers (heap start, heap size, stack start, stack size), got 3"
+    );
+    assert_eq!(
+        errors("# x\nrecrod 1 2"),
+        "x.txt:2: unknown word `recrod`; the words are map, record, free, written, ask, valid, initialised, next, audit, raw"
+    );
+    assert_eq!(
+        errors("ask 4294967296"),
+        "x.txt:1: ask, address: 4294967296 is out of range (0 to 4294967295)"
+    );
+    assert_eq!(
+        errors("ask 0x100000000"),
+        "x.txt:1: ask, address: 0x100000000 is out of range (0 to 4294967295)"
+    );
+    assert_eq!(
+        errors("ask -1"),
+        "x.txt:1: ask, address: -1 is out of range (0 to 4294967295)"
+    );
+    for word in ["12a", "0x", "0xg", "+1", "1,000", "-", "٣"] {
+        let expected = format!(
+            "x.txt:1: written, n: `{word}` is no number (decimal, or hexadecimal after 0x)"
+        );
+        assert_eq!(errors(&format!("written 1 {word}")), expected);
+    }
+    assert_eq!(
+        errors("raw"),
+        "x.txt:1: raw takes bytes, two hexadecimal digits each"
+    );
+    for word in ["0", "0x1", "123", "gg", "+1", "é"] {
+        let expected = format!("x.txt:1: raw: `{word}` is no byte (two hexadecimal digits)");
+        assert_eq!(errors(&format!("raw 00 {word}")), expected);
+    }
+}
+
+#[test]
+fn every_bad_line_has_its_message() {
+    assert_eq!(errors("ask\naudit\nfoo\nraw").lines().count(), 3);
+}
+
+#[test]
+fn back_to_text() {
+    let written = "map 4096 64 8192 32\nrecord 4104 20\nfree 4104\nwritten 1 2\nask 3\nvalid 4 5 6\ninitialised 7 8\nnext 9\naudit\n";
+    assert_eq!(text(&calls("x", written)), (written.to_owned(), None));
+    assert_eq!(text(&[]), (String::new(), None));
+}
+
+#[test]
+fn what_does_not_decode_is_named() {
+    let mut file = encode(9, &[]);
+    file.extend(encode(3, &[4104]));
+    let whole = file.len();
+    let why = |more: &[u8]| {
+        let stop = stop(&[&file, more].concat());
+        assert_eq!((stop.record, stop.at), (3, whole));
+        stop.message()
+    };
+    let message = |why: &str| format!("record 3 at byte 12 does not decode: {why}");
+    assert_eq!(
+        why(&[12]),
+        message("the file ends after 1 of the 4 bytes that each record has")
+    );
+    assert_eq!(why(&[12, 0, 2, 1]), message("kind 258 is unknown"));
+    assert_eq!(
+        why(&encode(2, &[1])),
+        message("its length is 8, that of record is 12")
+    );
+    assert_eq!(
+        why(&[12, 0, 2, 0, 7]),
+        message("the file ends after 5 of its 12 bytes")
+    );
+    let (written, _) = text(&[&file[..], &[12, 0, 2, 0, 7]].concat());
+    let remark = "# record 3 at byte 12 does not decode: the file ends after 5 of its 12 bytes";
+    assert_eq!(
+        written,
+        format!("audit\nfree 4104\n{remark}\nraw 0c 00 02 00 07\n")
+    );
+}
+
+#[test]
+fn every_file_has_a_text() {
+    for (_, file) in examples() {
+        for end in 0..=file.len() {
+            round_trip(&file[..end]);
+        }
+    }
+    for name in ["sha1", "sorts"] {
+        round_trip(&bytes(&format!("model/tests/data/{name}.calls")));
+    }
+    for seed in 0..300 {
+        println!("seed {seed}");
+        let mut random = Random::new(seed);
+        round_trip(&file(&mut random, 60));
+        let noise: Vec<u8> = (0..random.below(80))
+            .map(|_| random.number() as u8)
+            .collect();
+        round_trip(&noise);
+    }
+}
+
+#[test]
+fn a_text_without_bytes_comes_back() {
+    for seed in 0..300 {
+        let mut random = Random::new(seed);
+        let mut lines = String::new();
+        for _ in 0..random.below(30) {
+            let kind = &KINDS[random.below(KINDS.len() as u64) as usize];
+            let fields: String = kind
+                .fields
+                .iter()
+                .map(|_| format!(" {}", random.word()))
+                .collect();
+            lines += &format!("{}{fields}\n", kind.word);
+        }
+        assert_eq!(round_trip(&calls("x", &lines)), lines, "seed {seed}");
+    }
+}
+
+/// The text that README shows is good, and has every word.
+#[test]
+fn the_text_of_the_readme() {
+    let readme = String::from_utf8(bytes("README.md")).expect("README is text");
+    let (_, section) = readme.split_once("## Calls as text").expect("its section");
+    let shown = section.split("```").nth(1).expect("a block");
+    calls("README", shown);
+    for word in KINDS.iter().map(|kind| kind.word).chain(["raw"]) {
+        let begins = |line: &str| line.split(' ').next() == Some(word);
+        assert!(shown.lines().any(begins), "README does not show {word}");
+    }
+}
+
+/// The table of kinds against the model's own.
+#[test]
+fn kinds_and_lengths_are_the_models() {
+    for number in 0..=u16::MAX {
+        for fields in 0..8 {
+            let record = encode(number, &vec![4104; fields]);
+            let ours = text(&record).1.is_none();
+            assert_eq!(
+                ours,
+                model::program::decode(&record).is_some(),
+                "kind {number}, {fields} fields"
+            );
+        }
+    }
+}

@@ -1,0 +1,122 @@
+/* The allocators know nothing of the monitor: with the checks taken out, the lesson runs as it is. */
+#include "areas.h"
+
+/* Objects of the lesson are made of characters and 32-bit numbers, so each may lie in such an area. The first member aligns it. */
+static union {
+    uint64_t alignment;
+    uint32_t words[HEAP_SIZE / 4];
+    uint8_t bytes[HEAP_SIZE];
+} heap;
+
+static union {
+    uint64_t alignment;
+    uint32_t words[STACK_SIZE / 4];
+    uint8_t bytes[STACK_SIZE];
+} stack;
+
+static uint8_t heap_shadow[HEAP_SIZE];
+static uint8_t primary_shadow[STACK_SIZE];
+static uint8_t secondary_shadow[STACK_SIZE];
+
+const struct block_monitor monitor = {
+    .map = {HEAP_START, HEAP_SIZE, STACK_START, STACK_SIZE},
+    .heap = heap_shadow,
+    .heap_length = sizeof heap_shadow,
+    .primary = primary_shadow,
+    .primary_length = sizeof primary_shadow,
+    .secondary = secondary_shadow,
+    .secondary_length = sizeof secondary_shadow,
+};
+
+static uint32_t stack_top;
+
+/* The heap is a row of units, each a header of two words and the room behind it. The monitor leaves the same 8 bytes to the header. */
+struct unit {
+    uint32_t size; /* header and room, a multiple of 8 */
+    uint32_t taken;
+};
+
+static struct unit unit_at(uint32_t place)
+{
+    struct unit unit = {heap.words[place / 4], heap.words[place / 4 + 1]};
+    return unit;
+}
+
+static void put_unit(uint32_t place, uint32_t size, uint32_t taken)
+{
+    heap.words[place / 4] = size;
+    heap.words[place / 4 + 1] = taken;
+}
+
+void areas_start(void)
+{
+    put_unit(0, HEAP_SIZE, 0);
+    stack_top = 0;
+}
+
+uint32_t address_of(const void *pointer)
+{
+    uintptr_t byte = (uintptr_t)pointer;
+    uintptr_t heap_byte = (uintptr_t)heap.bytes;
+    uintptr_t stack_byte = (uintptr_t)stack.bytes;
+
+    if (byte >= heap_byte && byte - heap_byte < HEAP_SIZE)
+        return HEAP_START + (uint32_t)(byte - heap_byte);
+    if (byte >= stack_byte && byte - stack_byte < STACK_SIZE)
+        return STACK_START + (uint32_t)(byte - stack_byte);
+    return 0;
+}
+
+/* The bytes of the free unit at a place and of the free units right behind it. */
+static uint32_t free_run(uint32_t place)
+{
+    uint32_t end = place;
+
+    while (end < HEAP_SIZE && !unit_at(end).taken)
+        end += unit_at(end).size;
+    return end - place;
+}
+
+void *heap_allocate(uint32_t length)
+{
+    uint32_t place, room, need;
+
+    if (length == 0 || length > HEAP_SIZE - BLOCK_MONITOR_HEADER)
+        return NULL;
+    need = BLOCK_MONITOR_HEADER + (length + 7) / 8 * 8;
+    for (place = 0; place < HEAP_SIZE; place += unit_at(place).size) {
+        if (unit_at(place).taken)
+            continue;
+        room = free_run(place);
+        put_unit(place, room, 0);
+        if (room < need)
+            continue;
+        if (room > need)
+            put_unit(place + need, room - need, 0);
+        put_unit(place, need, 1);
+        return &heap.bytes[place + BLOCK_MONITOR_HEADER];
+    }
+    return NULL;
+}
+
+void heap_release(const void *pointer)
+{
+    uint32_t place = address_of(pointer) - HEAP_START - BLOCK_MONITOR_HEADER;
+
+    put_unit(place, unit_at(place).size, 0);
+}
+
+void *stack_push(uint32_t length)
+{
+    uint32_t place = (stack_top + 3) / 4 * 4;
+
+    if (place > STACK_SIZE || length > STACK_SIZE - place)
+        return NULL;
+    stack_top = place + length;
+    return &stack.bytes[place];
+}
+
+void stack_pop(const void *pointer)
+{
+    stack_top = address_of(pointer) - STACK_START;
+}

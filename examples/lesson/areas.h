@@ -1,0 +1,32 @@
+/* The lesson's memory: a heap area with an allocator, a stack area, the shadows lent to the monitor, and the way from a pointer to an address. */
+#ifndef AREAS_H
+#define AREAS_H
+
+#include "block_monitor.h"
+
+/* The chip's sizes. The starts are chosen freely: multiples of 8, at least 8, areas apart. */
+enum {
+    HEAP_START = 0x1000,
+    HEAP_SIZE = BLOCK_MONITOR_LARGEST_HEAP,
+    STACK_START = 0x40000,
+    STACK_SIZE = BLOCK_MONITOR_LARGEST_STACK
+};
+
+/* Map and shadows for every call of the monitor. */
+extern const struct block_monitor monitor;
+
+/* Before anything else: empty heap, empty stack. */
+void areas_start(void);
+
+/* The address of a byte of either area; 0, which no area holds, for any other pointer. */
+uint32_t address_of(const void *pointer);
+
+/* First fit. The base is a multiple of 8, and the 8 bytes before it are no other block's. NULL if there is no room. */
+void *heap_allocate(uint32_t length);
+void heap_release(const void *pointer);
+
+/* Automatic objects: the next length bytes, from a multiple of 4 on; popping one pops all that came after it. NULL if there is no room. */
+void *stack_push(uint32_t length);
+void stack_pop(const void *pointer);
+
+#endif

@@ -1,0 +1,182 @@
+#include "checks.h"
+
+#include <inttypes.h>
+#include <stdio.h>
+#include <stdlib.h>
+
+#include "areas.h"
+
+/* The last blocks that ended, for messages only: the monitor itself forgets a block when it ends. */
+enum { REMEMBERED = 16 };
+
+static struct ended {
+    uint32_t base;
+    uint32_t length;
+    struct place where;
+} ended[REMEMBERED];
+
+static unsigned endings;
+
+static void remember(struct block_monitor_block block, struct place where)
+{
+    struct ended *one = &ended[endings++ % REMEMBERED];
+
+    one->base = block.base;
+    one->length = block.length;
+    one->where = where;
+}
+
+/* The block that held an address last, or NULL. */
+static const struct ended *last_holder(uint32_t address)
+{
+    unsigned back;
+
+    for (back = 1; back <= endings && back <= REMEMBERED; back++) {
+        const struct ended *one = &ended[(endings - back) % REMEMBERED];
+        if (address >= one->base && address - one->base < one->length)
+            return one;
+    }
+    return NULL;
+}
+
+/* In words, the block that holds an address. */
+static void print_block(uint32_t address)
+{
+    struct block_monitor_block block;
+    const struct ended *gone = last_holder(address);
+
+    if (monitor_ask(&monitor, address, &block) == BLOCK_MONITOR_ACCEPTED)
+        printf("block (base 0x%" PRIx32 ", length %" PRIu32 ")", block.base, block.length);
+    else if (gone != NULL)
+        printf("no block since %s:%d, where block (base 0x%" PRIx32 ", length %" PRIu32 ") ended", gone->where.file, gone->where.line,
+               gone->base, gone->length);
+    else
+        printf("no block");
+}
+
+/* How a line begins: where, and what was tried. */
+static void print_use(const char *what, uint32_t n, uint32_t address, struct place where)
+{
+    printf("%s:%d: %s of %" PRIu32 " byte%s at 0x%" PRIx32 " stopped: ", where.file, where.line, what, n, n == 1 ? "" : "s", address);
+}
+
+static void print_call(const char *what, struct place where)
+{
+    printf("%s:%d: %s stopped: ", where.file, where.line, what);
+}
+
+static void stop(void)
+{
+    printf("\n");
+    exit(EXIT_FAILURE);
+}
+
+static void stop_refused(uint32_t number)
+{
+    printf("refused by %" PRIu32 ", %s", number, monitor_words(number));
+    stop();
+}
+
+/* Stops unless one block holds from and all n bytes. */
+static void must_be_valid(const char *what, uint32_t address, uint32_t n, uint32_t from, struct place where)
+{
+    uint32_t valid, first_valid;
+    uint32_t number = monitor_valid(&monitor, address, n, from, &valid);
+
+    if (valid)
+        return;
+    print_use(what, n, address, where);
+    if (number != BLOCK_MONITOR_ACCEPTED)
+        stop_refused(number);
+    monitor_valid(&monitor, address, 1, from, &first_valid);
+    printf(first_valid ? "runs past the end of " : "pointer into ");
+    print_block(from);
+    if (!first_valid && address != from) {
+        printf(", address in ");
+        print_block(address);
+    }
+    stop();
+}
+
+void check_start(struct place where)
+{
+    uint32_t number = monitor_clear(&monitor);
+
+    if (number == BLOCK_MONITOR_ACCEPTED)
+        return;
+    print_call("start", where);
+    stop_refused(number);
+}
+
+void check_record(const void *pointer, uint32_t length, struct place where)
+{
+    uint32_t base = address_of(pointer);
+    uint32_t number = monitor_record(&monitor, base, length);
+
+    if (number == BLOCK_MONITOR_ACCEPTED)
+        return;
+    print_use("record", length, base, where);
+    stop_refused(number);
+}
+
+void check_free(const char *what, const void *pointer, struct place where)
+{
+    uint32_t address = address_of(pointer);
+    struct block_monitor_block block;
+    uint32_t asked = monitor_ask(&monitor, address, &block);
+    uint32_t number = monitor_free(&monitor, address);
+
+    if (number == BLOCK_MONITOR_ACCEPTED) {
+        remember(block, where);
+        return;
+    }
+    print_call(what, where);
+    printf("0x%" PRIx32 " is ", address);
+    if (number != BLOCK_MONITOR_NO_BLOCK)
+        stop_refused(number);
+    printf(asked == BLOCK_MONITOR_ACCEPTED ? "not the first byte of " : "in ");
+    print_block(address);
+    stop();
+}
+
+void check_read(const void *pointer, uint32_t n, const void *from, struct place where)
+{
+    uint32_t address = address_of(pointer);
+    uint32_t number, written;
+
+    must_be_valid("read", address, n, address_of(from), where);
+    number = monitor_initialised(&monitor, address, n, &written);
+    if (written)
+        return;
+    print_use("read", n, address, where);
+    if (number != BLOCK_MONITOR_ACCEPTED)
+        stop_refused(number);
+    printf("not written yet, in ");
+    print_block(address);
+    stop();
+}
+
+void check_write(const void *pointer, uint32_t n, const void *from, struct place where)
+{
+    uint32_t address = address_of(pointer);
+    uint32_t number;
+
+    must_be_valid("write", address, n, address_of(from), where);
+    number = monitor_written(&monitor, address, n);
+    if (number == BLOCK_MONITOR_ACCEPTED)
+        return;
+    print_use("write", n, address, where);
+    stop_refused(number);
+}
+
+void check_end(struct place where)
+{
+    struct block_monitor_totals totals;
+    uint32_t number = monitor_audit(&monitor, &totals);
+
+    if (number != BLOCK_MONITOR_ACCEPTED) {
+        print_call("audit", where);
+        stop_refused(number);
+    }
+    printf("left at the end: %" PRIu32 " heap blocks, %" PRIu32 " stack blocks\n", totals.heap_blocks, totals.stack_blocks);
+}

@@ -1,0 +1,47 @@
+/*
+ * The checks that stand in the lesson at every allocation, release and pointer use. Each asks the monitor; where the answer is no, it prints
+ * one line (source line, what was tried, address, block) and ends the program before the use happens.
+ *
+ * from is the pointer that the used one was worked out from, as points in &points[i]: both must lie in one block.
+ */
+#ifndef CHECKS_H
+#define CHECKS_H
+
+#include <stdint.h>
+
+struct place {
+    const char *file;
+    int line;
+};
+
+#define HERE ((struct place){__FILE__, __LINE__})
+
+/* Before all others. */
+#define CHECK_START() check_start(HERE)
+
+/* After an allocation, and where an automatic object begins. */
+#define CHECK_RECORD(pointer, length) check_record(pointer, length, HERE)
+
+/* Before a heap block is given back. */
+#define CHECK_FREE(pointer) check_free("release", pointer, HERE)
+
+/* Where an automatic object ends. */
+#define CHECK_LEAVE(pointer) check_free("end", pointer, HERE)
+
+/* Before a read of n bytes. */
+#define CHECK_READ(pointer, n, from) check_read(pointer, n, from, HERE)
+
+/* Before a write of n bytes, which count as written from then on. */
+#define CHECK_WRITE(pointer, n, from) check_write(pointer, n, from, HERE)
+
+/* After all others: prints how many blocks were not released. */
+#define CHECK_END() check_end(HERE)
+
+void check_start(struct place where);
+void check_record(const void *pointer, uint32_t length, struct place where);
+void check_free(const char *what, const void *pointer, struct place where);
+void check_read(const void *pointer, uint32_t n, const void *from, struct place where);
+void check_write(const void *pointer, uint32_t n, const void *from, struct place where);
+void check_end(struct place where);
+
+#endif
