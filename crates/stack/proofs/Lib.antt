@@ -2,4 +2,5 @@ pub mod ReadLaws
 pub mod FillLaws
 pub mod MarkLaws
 pub mod CodeLaws
+pub mod TableLaws
 pub mod StampLaws

@@ -67,13 +67,8 @@ pub fn read_code(secondary: &[u8], p: usize, code: u8, written: u8) -> Reading
         return Reading::Damaged;
     }
     if code <= 36 {
-        return fit(
-            secondary.len(),
-            p,
-            short_length(code),
-            short_offset(code),
-            written,
-        );
+        let len = short_length(code);
+        return fit(secondary.len(), p, len, short_offset(code, len), written);
     }
     if code < 48 {
         return Reading::Damaged;
