@@ -1,7 +1,7 @@
 // Standard input through a buffer: wherever the reads end, a record is whole in it.
 ghost use Prim.Native.Nat.{_+_, _-_, _≤_};
 ghost use lib.ListN.{length};
-ghost use Rattle.calls.specs.Buffers.{Held};
+ghost use Rattle.calls.specs.Buffers.{Held, Whole};
 use calls_format::records;
 use calls_format::records::Decoded;
 use libc::STDIN_FILENO;
@@ -76,6 +76,7 @@ pub fn refill(buffer: &mut [u8; 65536], w: Window) -> Window
 
 fn decode_in(buffer: &[u8], w: Window) -> Decoded
     requires { ⌜ Held w (length (now buffer)) ⌝ }
+    ensures { λ r. ⌜ Whole r (w .end - w .at) ⌝ }
 {
     let at = w.at;
     let end = w.end;
@@ -85,22 +86,16 @@ fn decode_in(buffer: &[u8], w: Window) -> Decoded
 // The record that the window begins with.
 pub fn next(buffer: &[u8; 65536], w: Window) -> Decoded
     requires { ⌜ Held w 65536 ⌝ }
+    ensures { λ r. ⌜ Whole r (w .end - w .at) ⌝ }
 {
     decode_in(buffer, w)
 }
 
 // The window past a record.
 pub fn past(w: Window, length: usize) -> Window
-    requires { ⌜ Held w 65536 ⌝ }
+    requires { ⌜ Held w 65536 × (length ≤ w .end - w .at) ⌝ }
     ensures { λ r. ⌜ Held r 65536 ⌝ }
 {
-    if w.end - w.at < length {
-        return Window {
-            at: w.end,
-            end: w.end,
-            more: w.more,
-        };
-    }
     Window {
         at: w.at + length,
         end: w.end,
