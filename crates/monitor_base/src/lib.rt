@@ -25,10 +25,11 @@ pub enum Call {
     Audit,
 }
 
-// The reading of an address: base, length, offset and written bit, or that it lies in neither area.
+// The reading of an address: base, length, offset and written bit, or that it lies in neither area. The order is that of a reading's
+// cases, so that the one becomes the other at no cost.
 pub enum Found {
-    Outside,
     Nothing,
     Block(Address, u32, u32, u8),
     Damaged,
+    Outside,
 }

@@ -2,3 +2,4 @@ pub mod TestLaws
 pub mod LittleLaws
 pub mod BitLaws
 pub mod PartLaws
+pub mod ZeroLaws

@@ -161,6 +161,36 @@ over-more a n f h k =
         let w : q ≢ a + n = eqb-false q (a + n) e in
         getD-set-other (over a n f h) (a + n) q (f (a + n)) 0 w ∙ over-in a n f h q u x (omega arith)
 
+-- a part, and the part right after it
+pub over-next : (a m n : ℕ) (f g : ℕ → ℕ) (h : List ℕ) → ((q : ℕ) → a + m ≤ q → q < a + m + n → g q ≡ f q)
+    → over (a + m) n g (over a m f h) ≡ over a (m + n) f h
+over-next a m n f g h e =
+    is-over a (m + n) f h (over (a + m) n g (over a m f h)) (length-over (a + m) n g (over a m f h) ∙ l)
+    (λ q k x y. into q k x y (locate (a + m) (a + m + n) q))
+    (λ q k x. over-below (a + m) n g (over a m f h) q (rw l k) (omega arith) ∙ over-below a m f h q k x)
+    (λ q k x. over-above (a + m) n g (over a m f h) q (rw l k) (omega arith) ∙ over-above a m f h q k (omega arith))
+  where
+    l : length (over a m f h) ≡ length h
+    l = length-over a m f h
+
+    into : (q : ℕ) → q < length h → a ≤ q → q < a + (m + n) → Where (a + m) (a + m + n) q → at (over (a + m) n g (over a m f h)) q ≡ f q
+    into q k x y (below u) = over-below (a + m) n g (over a m f h) q (rw l k) u ∙ over-in a m f h q k x u
+    into q k x y (inside u v) = over-in (a + m) n g (over a m f h) q (rw l k) u v ∙ e q u v
+    into q k x y (above u v) = absurd (omega arith)
+
+-- bytes that are already what they are to become
+pub over-tail : (a m n : ℕ) (f : ℕ → ℕ) (h : List ℕ) → ((q : ℕ) → q < length h → a + m ≤ q → q < a + m + n → at h q ≡ f q)
+    → over a m f h ≡ over a (m + n) f h
+over-tail a m n f h e =
+    is-over a (m + n) f h (over a m f h) (length-over a m f h) (λ q k x y. into q k x y (locate a (a + m) q))
+    (over-below a m f h)
+    (λ q k x. over-above a m f h q k (omega arith))
+  where
+    into : (q : ℕ) → q < length h → a ≤ q → q < a + (m + n) → Where a (a + m) q → at (over a m f h) q ≡ f q
+    into q k x y (below u) = absurd (omega arith)
+    into q k x y (inside u v) = over-in a m f h q k u v
+    into q k x y (above u v) = over-above a m f h q k u ∙ e q k u (omega arith)
+
 -- ---- a part that was lent and has come back
 
 pub part-length : (xs : List ℕ) (a n : ℕ) → a + n ≤ length xs → length (take ((a + n) - a) (drop a xs)) ≡ n

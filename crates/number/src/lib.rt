@@ -62,13 +62,26 @@ pub fn all_zero(s: &[u8]) -> bool
     seen == 0
 }
 
-// Whether the n bytes from a on are zero.
-pub fn zero_at(s: &[u8], a: usize, n: usize) -> bool
+fn part_zero(s: &[u8], a: usize, n: usize) -> bool
     requires { ⌜ a + n ≤ length (now s) ⌝ }
     ensures { λ r. ⌜ r ≡ zeros (at (now (s .entry))) a n ⌝ }
 {
     let e = a + n;
     all_zero(&s[a..e])
+}
+
+// Whether the n bytes from a on are zero; the commonest lengths are one load and two.
+pub fn zero_at(s: &[u8], a: usize, n: usize) -> bool
+    requires { ⌜ a + n ≤ length (now s) ⌝ }
+    ensures { λ r. ⌜ r ≡ zeros (at (now (s .entry))) a n ⌝ }
+{
+    if n == 4 {
+        return number_at(s, a) == 0;
+    }
+    if n == 8 {
+        return (number_at(s, a) == 0) & (number_at(s, a + 4) == 0);
+    }
+    part_zero(s, a, n)
 }
 
 // Zeros in a whole slice.
@@ -82,13 +95,29 @@ pub fn fill_zero(s: &mut [u8])
     }
 }
 
-// Zeros in the n bytes from a on; every other byte stays.
-pub fn fill_zero_at(s: &mut [u8], a: usize, n: usize)
+fn fill_part(s: &mut [u8], a: usize, n: usize)
     requires { ⌜ a + n ≤ length (now s) ⌝ }
     ensures { λ _. ⌜ now (s .exit) ≡ over a n (λ q. 0) (now (s .entry)) ⌝ }
 {
     let e = a + n;
     fill_zero(&mut s[a..e]);
+}
+
+// Zeros in the n bytes from a on; every other byte stays. The commonest lengths are one store and two.
+pub fn fill_zero_at(s: &mut [u8], a: usize, n: usize)
+    requires { ⌜ a + n ≤ length (now s) ⌝ }
+    ensures { λ _. ⌜ now (s .exit) ≡ over a n (λ q. 0) (now (s .entry)) ⌝ }
+{
+    if n == 4 {
+        put_at(s, a, 0);
+        return;
+    }
+    if n == 8 {
+        put_at(s, a, 0);
+        put_at(s, a + 4, 0);
+        return;
+    }
+    fill_part(s, a, n);
 }
 
 // Bit j of a byte.

@@ -4,7 +4,7 @@ use mathlib.Core.Bool.{Bool, true, false, _&&_, and-assoc}
 use mathlib.Core.List.{List}
 use Prim.Native.Nat.{ℕ, zero, suc, _+_, _-_, _/_, _%_, _≤_, _<_, suc-le-suc}
 use native.Mathlib.Omega.{arith}
-use native.Mathlib.Nat.{add-zero, add-suc, suc-add}
+use native.Mathlib.Nat.{add-zero, zero-add, add-suc, suc-add}
 use lib.ListN.{length, set, length-set}
 use lib.Seq.{getD-set-same, getD-set-other}
 use lib.Bits.{bitAnd, bitOr, or-step, or-zero-r, and-comm, and-mask}
@@ -78,3 +78,34 @@ pub seen-more : (s x : ℕ) → s < 2 → (eqb (bitAnd s x) 1 ≡ (eqb s 1 && eq
 seen-more zero x h = (refl, omega arith)
 seen-more (suc zero) x h = rw (and-comm 1 x, and-mask x 1) (refl, omega arith)
 seen-more (suc (suc s)) x h = absurd (omega arith)
+
+-- bytes, and bytes right after them
+pub marked-next : (size : ℕ) (P S : List ℕ) (p m n : ℕ)
+    → rangeMarked (stackOps size) (P, S) p (m + n) ≡ (rangeMarked (stackOps size) (P, S) p m && rangeMarked (stackOps size) (P, S) (p + m) n)
+unfolding rangeMarked stackMarked
+marked-next size P S p zero n = rw (zero-add n, add-zero p)
+marked-next size P S p (suc m) n =
+    rw (suc-add m n, marked-next size P S (suc p) m n, suc-add p m, ← add-suc p m)
+    (sym (and-assoc (eqb (at P p % 2) 1) (rangeMarked (stackOps size) (P, S) (suc p) m) (rangeMarked (stackOps size) (P, S) (p + suc m) n)))
+
+and-four : (s a b c d : Bool) → ((((s && a) && b) && c) && d) ≡ (s && ((((true && a) && b) && c) && d))
+and-four true a b c d = refl
+and-four false a b c d = refl
+
+-- a bit that has seen only ones sees four bytes more
+pub seen-four : (size : ℕ) (P S : List ℕ) (k s : ℕ) → s < 2
+    → (bitAnd (bitAnd (bitAnd (bitAnd s (at P k)) (at P (k + 1))) (at P (k + 2))) (at P (k + 3)) < 2)
+    × (eqb (bitAnd (bitAnd (bitAnd (bitAnd s (at P k)) (at P (k + 1))) (at P (k + 2))) (at P (k + 3))) 1 ≡ (eqb s 1 && rangeMarked (stackOps size) (P, S) k 4))
+unfolding rangeMarked
+seen-four size P S k s h =
+    let a = seen-more s (at P k) h in
+    let b = seen-more (bitAnd s (at P k)) (at P (k + 1)) (a .1) in
+    let c = seen-more (bitAnd (bitAnd s (at P k)) (at P (k + 1))) (at P (k + 2)) (b .1) in
+    let d = seen-more (bitAnd (bitAnd (bitAnd s (at P k)) (at P (k + 1))) (at P (k + 2))) (at P (k + 3)) (c .1) in
+    let z : k + 0 ≡ k = add-zero k in (
+      d .1,
+      d .0
+          ∙ rw (c .0, b .0, a .0)
+          (and-four (eqb s 1) (eqb (at P k % 2) 1) (eqb (at P (k + 1) % 2) 1) (eqb (at P (k + 2) % 2) 1) (eqb (at P (k + 3) % 2) 1)
+          ∙ ap (λ t. eqb s 1 && t) (sym (marked-more size P S k 3 ∙ rw (marked-more size P S k 2, marked-more size P S k 1, marked-more size P S k 0, z) refl))),
+    )

@@ -21,13 +21,37 @@ pub fn climb(part: &mut [u8], first: u8)
     }
 }
 
-// The same in the n bytes from q on; every other byte stays.
-pub fn climb_at(primary: &mut [u8], q: usize, n: usize, first: u8)
+// The same in four bytes from q on, as one number: no byte carries into the next.
+pub fn climb_four(primary: &mut [u8], q: usize, first: u8)
+    requires { ⌜ (q + 4 ≤ length (now primary)) × (first + 12 ≤ 255) ⌝ }
+    ensures { λ _. ⌜ now (primary .exit) ≡ over q 4 (λ x. first + 4 * (x - q)) (now (primary .entry)) ⌝ }
+{
+    number::put_at(primary, q, 0x01010101 * number::wide(first) + 0x0c080400);
+}
+
+fn climb_part(primary: &mut [u8], q: usize, n: usize, first: u8)
     requires { ⌜ (q + n ≤ length (now primary)) × (first + 4 * n ≤ 255) ⌝ }
     ensures { λ _. ⌜ now (primary .exit) ≡ over q n (λ x. first + 4 * (x - q)) (now (primary .entry)) ⌝ }
 {
     let e = q + n;
     climb(&mut primary[q..e], first);
+}
+
+// The same in the n bytes from q on; every other byte stays. Blocks of four and eight bytes, and pieces, are one store and two.
+pub fn climb_at(primary: &mut [u8], q: usize, n: usize, first: u8)
+    requires { ⌜ (q + n ≤ length (now primary)) × (first + 4 * n ≤ 255) ⌝ }
+    ensures { λ _. ⌜ now (primary .exit) ≡ over q n (λ x. first + 4 * (x - q)) (now (primary .entry)) ⌝ }
+{
+    if n == 4 {
+        climb_four(primary, q, first);
+        return;
+    }
+    if n == 8 {
+        climb_four(primary, q, first);
+        climb_four(primary, q + 4, first + 16);
+        return;
+    }
+    climb_part(primary, q, n, first);
 }
 
 // The primary bytes: the codes of a short block climb from its first, those of each piece from 48.

@@ -1,51 +1,63 @@
 -- `number::fill_zero_at` meets its contract. Assumes nothing.
-use mathlib.Core.Path.{_≡_, ap, _∙_}
-use Prim.Native.Nat.{_+_, _-_}
-use native.Mathlib.Omega.{arith}
+use mathlib.Core.Path.{sym, ap, _∙_}
 use denote.Ref.{now}
-use lib.ListN.{length, take, drop}
-use Rattle.number.proofs.PartLaws.{over-part, part-length, length-over, over-in}
+use Rattle.number.specs.Parts.{over}
+use Rattle.number.proofs.ZeroLaws.{put-zero, put-zeros}
 use borrow.Author.Needs.{needs}
 use Rattle.number.proofs.fill_zero_at.Statement.{statement}
 use Rattle.number.proofs.fill_zero_at.Tie as tie
 
-add-e : tie.Need-add-e
-add-e c = search needs
-
-sub-fill-zero : tie.Need-sub-fill-zero
-sub-fill-zero c = search needs
-
-part-fill-zero-start : tie.Need-part-fill-zero-start
-part-fill-zero-start c = search needs
-
-part-fill-zero-end : tie.Need-part-fill-zero-end
-part-fill-zero-end c = search needs
-
-fill-zero-requires : tie.Need-fill-zero-requires
-fill-zero-requires c κs = search needs
+put-at-requires : tie.Need-put-at-requires
+put-at-requires c κs = search needs
 
 same-length : tie.Need-same-length
 same-length c = search needs
 
 returns : tie.Need-returns
 returns c =
-    let a = c .before .before .before .before .before .args in
-    let h = c .before .before .before .before .before .pre in
-    let part = take (a .a + a .n - a .a) (drop (a .a) (now (a .s))) in
-    let e = c .before .before .fill-zero .ensures in
-    let l : length part ≡ a .n = part-length (now (a .s)) (a .a) (a .n) h in
-    over-part (now (a .s)) (c .before .before .fill-zero .last .0) (a .a) (a .n) (λ q. 0) h
-    (ap length e ∙ length-over 0 (length part) (λ q. 0) part ∙ l)
-    (λ i k. rw e (over-in 0 (length part) (λ q. 0) part i (omega arith) (omega arith) (omega arith)))
+    let s = c .before .before .before .before .before .before in
+    c .before .before .put-at .ensures ∙ put-zero (s .args .a) 4 (now (s .args .s))
+    ∙ ap (λ n. over (s .args .a) n (λ q. 0) (now (s .args .s))) (sym (c .before .before .before .before .if1 .taken))
+
+put-at-requires-2 : tie.Need-put-at-requires-2
+put-at-requires-2 c κs = search needs
+
+add-put-at : tie.Need-add-put-at
+add-put-at c = search needs
+
+put-at-requires-3 : tie.Need-put-at-requires-3
+put-at-requires-3 c κs = search needs
+
+same-length-2 : tie.Need-same-length-2
+same-length-2 c = search needs
+
+returns-2 : tie.Need-returns-2
+returns-2 c =
+    let s = c .before .before .before .before .before .before .before .before .before .before .before in
+    put-zeros (s .args .a) 4 4 (now (s .args .s)) _ _ (c .before .before .before .before .before .before .put-at2 .ensures) (c .before .before .put-at3 .ensures)
+    ∙ ap (λ n. over (s .args .a) n (λ q. 0) (now (s .args .s))) (sym (c .before .before .before .before .before .before .before .before .if2 .taken))
+
+fill-part-requires : tie.Need-fill-part-requires
+fill-part-requires c κs = search needs
+
+same-length-3 : tie.Need-same-length-3
+same-length-3 c = search needs
+
+returns-3 : tie.Need-returns-3
+returns-3 c = search needs
 
 pub fill-zero-at-spec : {M : Type 1} → statement M
 fill-zero-at-spec =
     tie.close
     (tie.spec
-    add-e
-    sub-fill-zero
-    part-fill-zero-start
-    part-fill-zero-end
-    fill-zero-requires
+    put-at-requires
     same-length
-    returns)
+    returns
+    put-at-requires-2
+    add-put-at
+    put-at-requires-3
+    same-length-2
+    returns-2
+    fill-part-requires
+    same-length-3
+    returns-3)

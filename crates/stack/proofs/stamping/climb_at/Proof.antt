@@ -1,36 +1,67 @@
--- `stamping::climb_at` meets its contract. Assumes nothing.
-use native.Mathlib.Nat.{add-sub-cancel-left}
+-- `stack::stamping::climb_at` meets its contract. Assumes nothing.
+use mathlib.Core.Path.{sym, ap, _∙_}
+use Prim.Native.Nat.{_+_, _-_, _*_}
 use denote.Ref.{now}
+use Rattle.number.specs.Parts.{over}
+use Rattle.stack.proofs.StampLaws.{climb-on}
 use borrow.Author.Needs.{needs}
-use Rattle.stack.proofs.FillLaws.{over-lent}
 use Rattle.stack.proofs.stamping.climb_at.Statement.{statement}
 use Rattle.stack.proofs.stamping.climb_at.Tie as tie
 
-add-e : tie.Need-add-e
-add-e c = search needs
-
-sub-climb : tie.Need-sub-climb
-sub-climb c = search needs
-
-part-climb-start : tie.Need-part-climb-start
-part-climb-start c = search needs
-
-part-climb-end : tie.Need-part-climb-end
-part-climb-end c = search needs
-
-climb-requires : tie.Need-climb-requires
-climb-requires c κs = search needs
+climb-four-requires : tie.Need-climb-four-requires
+climb-four-requires c κs = search needs
 
 same-length : tie.Need-same-length
 same-length c = search needs
 
 returns : tie.Need-returns
 returns c =
-    let s = c .before .before .before .before .before in
-    over-lent (now (s .args .primary)) (c .before .before .climb .last .0) (s .args .q) (s .args .n) _ _ (s .pre .0) (c .before .before .climb .ensures)
-    (λ i h. rw (add-sub-cancel-left (s .args .q) i))
+    let a = c .before .before .before .before .before .before .args in
+    c .before .before .climb-four .ensures ∙ ap (λ n. over (a .q) n (λ x. a .first + 4 * (x - a .q)) (now (a .primary))) (sym (c .before .before .before .before .if1 .taken))
+
+climb-four-requires-2 : tie.Need-climb-four-requires-2
+climb-four-requires-2 c κs = search needs
+
+add-climb-four : tie.Need-add-climb-four
+add-climb-four c = search needs
+
+add-climb-four-2 : tie.Need-add-climb-four-2
+add-climb-four-2 c = search needs
+
+climb-four-requires-3 : tie.Need-climb-four-requires-3
+climb-four-requires-3 c κs = search needs
+
+same-length-2 : tie.Need-same-length-2
+same-length-2 c = search needs
+
+returns-2 : tie.Need-returns-2
+returns-2 c =
+    let a = c .before .before .before .before .before .before .before .before .before .before .before .args in
+    climb-on (a .first) (a .q) (now (a .primary)) _ _ (c .before .before .before .before .before .before .climb-four2 .ensures) (c .before .before .climb-four3 .ensures)
+    ∙ ap (λ n. over (a .q) n (λ x. a .first + 4 * (x - a .q)) (now (a .primary))) (sym (c .before .before .before .before .before .before .before .before .if2 .taken))
+
+climb-part-requires : tie.Need-climb-part-requires
+climb-part-requires c κs = search needs
+
+same-length-3 : tie.Need-same-length-3
+same-length-3 c = search needs
+
+returns-3 : tie.Need-returns-3
+returns-3 c = search needs
 
 pub climb-at-spec : {M : Type 1} → statement M
 climb-at-spec =
     tie.close
-    (tie.spec add-e sub-climb part-climb-start part-climb-end climb-requires same-length returns)
+    (tie.spec
+    climb-four-requires
+    same-length
+    returns
+    climb-four-requires-2
+    add-climb-four
+    add-climb-four-2
+    climb-four-requires-3
+    same-length-2
+    returns-2
+    climb-part-requires
+    same-length-3
+    returns-3)
