@@ -17,6 +17,7 @@
 //! - [`bytes`]: all nine calls on any map and any shadow bytes.
 //! - [`program`]: the calls program, run on a plain list.
 //! - [`notation`]: the one-line notation of the example files.
+//! - [`samples`]: the samples program, which answers lines of that notation.
 //! - [`random`], [`generate`]: seeded maps, calls, shadows and input files.
 
 pub mod block;
@@ -32,3 +33,4 @@ pub mod plain_btree;
 pub mod program;
 pub mod random;
 pub mod reading;
+pub mod samples;

@@ -1,8 +1,11 @@
 //! The one-line notation of the example files.
 //!
-//! `run[0]: records => lines` is an input of the calls program and its output.
-//! `on[0]: bytes : call => number fields then bytes` is one call on shadows
-//! that are zero but for the bytes given. Lines beginning with `#` are remarks.
+//! `run: records => lines` is an input of the calls program and its output.
+//! `on: bytes : call => number fields then bytes` is one call on shadows that
+//! are zero but for the bytes given. `run[0]` and `on[0]` say that document 01
+//! alone is meant. Lines beginning with `#` are remarks.
+
+use std::str::FromStr;
 
 use crate::call::{Answer, Call, NO_FIELDS};
 use crate::image::Shadows;
@@ -45,6 +48,18 @@ pub enum Shadow {
 }
 
 impl Shadow {
+    /// In the order of the notation.
+    pub const ALL: [Shadow; 3] = [Shadow::Heap, Shadow::Primary, Shadow::Secondary];
+
+    /// Its name in the notation.
+    pub fn name(self) -> &'static str {
+        match self {
+            Shadow::Heap => "heap",
+            Shadow::Primary => "pri",
+            Shadow::Secondary => "sec",
+        }
+    }
+
     /// This one of the three.
     pub fn of(self, shadows: &Shadows) -> &[u8] {
         match self {
@@ -80,24 +95,26 @@ pub fn examples(text: &str) -> Vec<(&str, &str, Example)> {
 
 /// The example a line states, if it keeps to the notation.
 pub fn example(line: &str) -> Option<Example> {
-    if let Some(run) = line.strip_prefix("run[0]:") {
-        let (records, lines) = run.split_once("=>")?;
-        return Some(Example::Run {
-            input: records_of(records)?,
-            output: lines_of(lines),
-        });
+    let (head, text) = line.split_once(':')?;
+    let (question, result) = text.split_once("=>")?;
+    match head {
+        "run" | "run[0]" => Some(Example::Run {
+            input: records(question).collect::<Option<Vec<_>>>()?.concat(),
+            output: lines_of(result),
+        }),
+        "on" | "on[0]" => one_call(question, result).map(Example::On),
+        _ => None,
     }
-    one_call(line.strip_prefix("on[0]:")?).map(Example::On)
 }
 
-fn records_of(text: &str) -> Option<Vec<u8>> {
-    let mut input = Vec::new();
-    for record in text.split(';').filter(|record| !record.trim().is_empty()) {
+/// The bytes of each record of a text; none where the text is no record.
+pub fn records(text: &str) -> impl Iterator<Item = Option<Vec<u8>>> + '_ {
+    let texts = text.split(';').filter(|record| words(record).count() > 0);
+    texts.map(|record| {
         let numbers = numbers_of(record)?;
         let (&kind, fields) = numbers.split_first()?;
-        input.extend(encode(u16::try_from(kind).ok()?, fields));
-    }
-    Some(input)
+        Some(encode(u16::try_from(kind).ok()?, fields))
+    })
 }
 
 fn lines_of(text: &str) -> Vec<u8> {
@@ -108,50 +125,56 @@ fn lines_of(text: &str) -> Vec<u8> {
         .collect()
 }
 
-fn one_call(text: &str) -> Option<OneCall> {
-    let (question, result) = text.split_once("=>")?;
-    let (bytes, call) = question.split_once(':')?;
+fn one_call(question: &str, result: &str) -> Option<OneCall> {
+    let (shadows, call) = asked(question)?;
     let (answer, then) = result.split_once("then").unwrap_or((result, ""));
-    let mut shadows = Shadows::cleared(EXAMPLE_MAP);
-    for part in bytes_of(bytes)? {
-        let shadow = part.shadow.of_mut(&mut shadows);
-        shadow
-            .get_mut(part.position..part.position + part.bytes.len())?
-            .copy_from_slice(&part.bytes);
-    }
     Some(OneCall {
         shadows,
-        call: call_of(call)?,
+        call,
         answer: answer_of(answer)?,
         then: bytes_of(then)?,
     })
 }
 
+/// The shadows and the call of `bytes : call`.
+pub fn asked(text: &str) -> Option<(Shadows, Call)> {
+    let (bytes, call) = text.split_once(':')?;
+    if !bytes.is_empty() && !bytes.starts_with(' ') {
+        return None;
+    }
+    let mut shadows = Shadows::cleared(EXAMPLE_MAP);
+    put(&mut shadows, &bytes_of(bytes)?)?;
+    Some((shadows, call_of(call)?))
+}
+
+/// Puts bytes into the shadows, if they all have a place there.
+pub fn put(shadows: &mut Shadows, parts: &[Bytes]) -> Option<()> {
+    for part in parts {
+        let shadow = part.shadow.of_mut(shadows);
+        shadow
+            .get_mut(part.position..part.position + part.bytes.len())?
+            .copy_from_slice(&part.bytes);
+    }
+    Some(())
+}
+
 fn bytes_of(text: &str) -> Option<Vec<Bytes>> {
-    text.split_whitespace()
+    words(text)
         .map(|part| {
             let (place, bytes) = part.split_once('=')?;
             let (name, position) = place.split_once('@')?;
-            let shadow = match name {
-                "heap" => Shadow::Heap,
-                "pri" => Shadow::Primary,
-                "sec" => Shadow::Secondary,
-                _ => return None,
-            };
             Some(Bytes {
-                shadow,
-                position: position.parse().ok()?,
-                bytes: bytes
-                    .split(',')
-                    .map(|byte| byte.parse().ok())
-                    .collect::<Option<_>>()?,
+                shadow: Shadow::ALL.into_iter().find(|s| s.name() == name)?,
+                position: number_of::<u32>(position)? as usize,
+                bytes: bytes.split(',').map(number_of).collect::<Option<_>>()?,
             })
         })
         .collect()
 }
 
 fn call_of(text: &str) -> Option<Call> {
-    let (name, rest) = text.trim().split_once(' ').unwrap_or((text.trim(), ""));
+    let text = text.trim_matches(' ');
+    let (name, rest) = text.split_once(' ').unwrap_or((text, ""));
     let fields = numbers_of(rest)?;
     let names = [
         "record",
@@ -178,7 +201,16 @@ fn answer_of(text: &str) -> Option<Answer> {
 }
 
 fn numbers_of(text: &str) -> Option<Vec<u32>> {
-    text.split_whitespace()
-        .map(|word| word.parse().ok())
-        .collect()
+    words(text).map(number_of).collect()
+}
+
+/// What stands between spaces.
+fn words(text: &str) -> impl Iterator<Item = &str> {
+    text.split(' ').filter(|word| !word.is_empty())
+}
+
+/// A number in digits alone: the library's own parser takes a sign too.
+fn number_of<T: FromStr>(word: &str) -> Option<T> {
+    let digits = word.bytes().all(|byte| byte.is_ascii_digit());
+    digits.then(|| word.parse().ok())?
 }

@@ -33,6 +33,11 @@ fn every_example_of_the_open_points() {
 }
 
 #[test]
+fn document_01() {
+    assert_eq!(check("document-01.txt"), 66);
+}
+
+#[test]
 fn odd_bytes() {
     assert_eq!(check("odd-bytes.txt"), 49);
 }

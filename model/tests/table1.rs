@@ -2,25 +2,15 @@
 
 mod common;
 
-use common::{data, on};
+use common::{on, table1};
 use model::call::Call;
 use model::image::{stack_code, Shadows};
 use model::notation::EXAMPLE_MAP;
 use model::reading::short_block;
 
-fn table() -> Vec<(u8, u32, u32)> {
-    let text = String::from_utf8(data("table1.txt")).expect("the table is text");
-    let rows = text.lines().filter(|line| !line.starts_with('#'));
-    rows.map(|row| {
-        let numbers: Vec<u32> = row.split(' ').map(|word| word.parse().unwrap()).collect();
-        (numbers[0] as u8, numbers[1], numbers[2])
-    })
-    .collect()
-}
-
 #[test]
 fn codes_in_both_directions() {
-    let rows = table();
+    let rows = table1();
     assert_eq!(rows.len(), 36);
     for (index, (code, length, offset)) in rows.into_iter().enumerate() {
         assert_eq!(usize::from(code), index + 1);
@@ -31,7 +21,7 @@ fn codes_in_both_directions() {
 
 #[test]
 fn codes_in_the_primary_shadow() {
-    for (code, length, offset) in table() {
+    for (code, length, offset) in table1() {
         let mut shadows = Shadows::cleared(EXAMPLE_MAP);
         let base = 8200;
         on(EXAMPLE_MAP, &mut shadows, Call::Record { base, length });

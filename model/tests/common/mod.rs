@@ -26,6 +26,17 @@ pub fn texts(name: &str) -> Vec<(String, String, Example)> {
         .collect()
 }
 
+/// Table 1 of source document 000: code, length and offset of each row.
+pub fn table1() -> Vec<(u8, u32, u32)> {
+    let text = String::from_utf8(data("table1.txt")).expect("the table is text");
+    let rows = text.lines().filter(|line| !line.starts_with('#'));
+    rows.map(|row| {
+        let numbers: Vec<u32> = row.split(' ').map(|word| word.parse().unwrap()).collect();
+        (numbers[0] as u8, numbers[1], numbers[2])
+    })
+    .collect()
+}
+
 /// One call of the byte-level model.
 pub fn on(map: Map, shadows: &mut Shadows, call: Call) -> Answer {
     bytes::call(

@@ -1,0 +1,71 @@
+-- `samples::scan::number_at` is safe and ends: the value stays below 2 to the 32, so that ten times it fits. Assumes nothing.
+use Prim.Native.Nat.{_≤_, _-_}
+use borrow.Author.Needs.{needs}
+use lib.ListN.{length}
+use Rattle.samples.proofs.scan.number_at.Statement.{statement}
+use Rattle.samples.proofs.scan.number_at.Tie as tie
+
+abbrev Inv-loop : tie.InvT-loop
+Inv-loop line at value₀ i₀ value i = value ≤ 4294967295
+
+abbrev μ-loop : tie.MeasureT-loop
+μ-loop line at value₀ i₀ value i = length line - i
+
+loop-holds : tie.Need-loop-holds Inv-loop μ-loop
+loop-holds c = search needs
+
+shared-slice-read-digit : tie.Need-shared-slice-read-digit Inv-loop μ-loop
+shared-slice-read-digit c = search needs
+
+digit-requires : tie.Need-digit-requires Inv-loop μ-loop
+digit-requires c κs = search needs
+
+taken-requires : tie.Need-taken-requires Inv-loop μ-loop
+taken-requires c κs = search needs
+
+returns : tie.Need-returns Inv-loop μ-loop
+returns c = search needs
+
+mul-value : tie.Need-mul-value Inv-loop μ-loop
+mul-value c = search needs
+
+add-value : tie.Need-add-value Inv-loop μ-loop
+add-value c = search needs
+
+returns-2 : tie.Need-returns-2 Inv-loop μ-loop
+returns-2 c = search needs
+
+add-i : tie.Need-add-i Inv-loop μ-loop
+add-i c = search needs
+
+loop-less : tie.Need-loop-less Inv-loop μ-loop
+loop-less c = search needs
+
+loop-again : tie.Need-loop-again Inv-loop μ-loop
+loop-again c = search needs
+
+taken-requires-2 : tie.Need-taken-requires-2 Inv-loop μ-loop
+taken-requires-2 c κs = search needs
+
+returns-3 : tie.Need-returns-3 Inv-loop μ-loop
+returns-3 c = search needs
+
+pub number-at-spec : {M : Type 1} → statement M
+number-at-spec =
+    tie.close
+    (tie.spec
+    Inv-loop
+    μ-loop
+    loop-holds
+    shared-slice-read-digit
+    digit-requires
+    taken-requires
+    returns
+    mul-value
+    add-value
+    returns-2
+    add-i
+    loop-less
+    loop-again
+    taken-requires-2
+    returns-3)

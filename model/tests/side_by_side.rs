@@ -1,0 +1,78 @@
+//! The plain list and the byte-level model side by side: the worked example of
+//! document 01 call by call, and every block alone on every address.
+
+mod common;
+
+use common::{data, on};
+use model::call::{Answer, Call};
+use model::image::{image, Shadows};
+use model::notation::EXAMPLE_MAP;
+use model::plain::{List, PlainList};
+
+/// Both models side by side on the map of the samples.
+struct Both {
+    list: PlainList,
+    shadows: Shadows,
+}
+
+impl Both {
+    fn new() -> Self {
+        Both {
+            list: PlainList::new(EXAMPLE_MAP),
+            shadows: Shadows::cleared(EXAMPLE_MAP),
+        }
+    }
+
+    fn step(&mut self, call: Call) -> Answer {
+        let answer = on(EXAMPLE_MAP, &mut self.shadows, call);
+        assert_eq!(self.list.step(call), answer, "{call:?}");
+        let image = image(EXAMPLE_MAP, self.list.blocks());
+        assert_eq!(image, self.shadows, "{call:?}");
+        answer
+    }
+
+    fn record(&mut self, base: u32, length: u32) -> u32 {
+        self.step(Call::Record { base, length }).number
+    }
+}
+
+#[test]
+fn worked_example_call_by_call() {
+    let text = String::from_utf8(data("document-01.txt")).expect("example files are text");
+    let worked = text.lines().find(|line| line.starts_with("run")).unwrap();
+    let (records, lines) = worked.split_once("=>").unwrap();
+    let mut both = Both::new();
+    // The first record is the map, which both have already.
+    for (record, line) in records.split(';').zip(lines.split(';')).skip(1) {
+        let words = |text: &str| -> Vec<u32> {
+            let words = text.split_whitespace();
+            words.map(|word| word.parse().unwrap()).collect()
+        };
+        let (record, line) = (words(record), words(line));
+        let call = Call::from_record(record[0] as u16, &record[1..]).unwrap();
+        let answer = both.step(call);
+        assert_eq!(answer.number, line[1], "{call:?}");
+        assert_eq!(answer.fields[..line.len() - 2], line[2..], "{call:?}");
+    }
+}
+
+#[test]
+fn every_block_alone_on_every_address() {
+    let map = EXAMPLE_MAP;
+    for base in (4096..4160).chain(8192..8224) {
+        for length in 0..66 {
+            let mut both = Both::new();
+            if both.record(base, length) != 0 {
+                continue;
+            }
+            let n = length;
+            both.step(Call::Written { address: base, n });
+            for address in (4090..4170).chain(8185..8230) {
+                both.step(Call::Ask { address });
+            }
+            both.step(Call::Audit);
+            both.step(Call::Free { base });
+            assert_eq!(both.shadows, Shadows::cleared(map));
+        }
+    }
+}

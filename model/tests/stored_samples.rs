@@ -1,0 +1,189 @@
+//! The samples program's input and stored output, beside what document 01,
+//! its open points and Table 1 state, and beside the plain list.
+//!
+//! After new lines in `crates/samples/stdin`, the stored output is made anew by
+//! `model-samples < crates/samples/stdin > crates/samples/stdout`.
+
+mod common;
+
+use std::collections::HashMap;
+use std::path::PathBuf;
+
+use common::{data, table1};
+use model::call::Call;
+use model::decode::decode;
+use model::image::{image, Shadows};
+use model::notation::{example, put, Example, OneCall, EXAMPLE_MAP};
+use model::plain::{List, PlainList};
+use model::reading::View;
+use model::samples::{answered, LONGEST_LINE};
+
+/// The files of tests/data whose right-hand sides are stated.
+const STATED: [&str; 5] = [
+    "document-01.txt",
+    "open-points.txt",
+    "damage.txt",
+    "near-damage.txt",
+    "odd-bytes.txt",
+];
+
+fn stored(name: &str) -> String {
+    let path = PathBuf::from(env!("CARGO_MANIFEST_DIR"))
+        .join("../crates/samples")
+        .join(name);
+    std::fs::read_to_string(&path).unwrap_or_else(|error| panic!("{}: {error}", path.display()))
+}
+
+/// The stored right-hand side of each line of the input.
+fn right_hand_sides() -> HashMap<String, String> {
+    let (input, output) = (stored("stdin"), stored("stdout"));
+    let pairs = input.lines().zip(output.lines());
+    let sides = pairs.filter_map(|(line, answered)| {
+        let side = answered.strip_prefix(line)?.strip_prefix(" =>")?;
+        Some((line.to_owned(), side.trim_start().to_owned()))
+    });
+    sides.collect()
+}
+
+/// A line of a data file as the program reads it, and what is stated of it.
+fn split(line: &str) -> (String, &str) {
+    let (question, stated) = line.split_once("=>").expect("an example has two sides");
+    (
+        question.replacen("[0]:", ":", 1).trim_end().to_owned(),
+        stated.trim(),
+    )
+}
+
+/// Shadows after a call, as a whole right-hand side tells them.
+fn after(told: &OneCall) -> Shadows {
+    let mut shadows = told.shadows.clone();
+    put(&mut shadows, &told.then).expect("bytes of the shadows");
+    shadows
+}
+
+fn one_call(question: &str, side: &str) -> OneCall {
+    match example(&format!("{question} => {side}")) {
+        Some(Example::On(told)) => told,
+        _ => panic!("no call: {question} => {side}"),
+    }
+}
+
+#[test]
+fn the_stored_output_is_the_models() {
+    let made = String::from_utf8(answered(stored("stdin").as_bytes())).expect("lines are text");
+    for (made, kept) in made.lines().zip(stored("stdout").lines()) {
+        assert_eq!(made, kept);
+    }
+    assert_eq!(made, stored("stdout"));
+}
+
+#[test]
+fn every_stated_example_is_stored_with_its_right_hand_side() {
+    let sides = right_hand_sides();
+    for name in STATED {
+        let text = String::from_utf8(data(name)).expect("example files are text");
+        let lines = text
+            .lines()
+            .filter(|l| !l.is_empty() && !l.starts_with('#'));
+        for line in lines {
+            let (question, stated) = split(line);
+            let side = sides
+                .get(&question)
+                .unwrap_or_else(|| panic!("{name}: {line}"));
+            if question.starts_with("run") {
+                assert_eq!(side, stated, "{name}: {line}");
+                continue;
+            }
+            let numbers = |side: &str| side.split(" then ").next().map(str::to_owned);
+            assert_eq!(numbers(side), numbers(stated), "{name}: {line}");
+            let after = after(&one_call(&question, side));
+            for part in &one_call(&question, stated).then {
+                let bytes = &part.shadow.of(&after)[part.position..][..part.bytes.len()];
+                assert_eq!(bytes, part.bytes, "{name}: {line}");
+            }
+        }
+    }
+}
+
+#[test]
+fn table_1_is_stored_in_both_directions() {
+    let sides = right_hand_sides();
+    let rows = table1();
+    for length in 1..=8 {
+        let bytes = rows.iter().filter(|row| row.1 == length);
+        let bytes: Vec<String> = bytes.map(|row| (4 * row.0).to_string()).collect();
+        let stated = format!("0 then pri@8={}", bytes.join(","));
+        assert_eq!(sides[&format!("on: : record 8200 {length}")], stated);
+    }
+    for (code, length, offset) in rows {
+        let (position, byte, address) = (8 + offset, 4 * code, 8200 + offset);
+        let stated = format!("0 8200 {length} {offset} 0");
+        assert_eq!(
+            sides[&format!("on: pri@{position}={byte} : ask {address}")],
+            stated
+        );
+    }
+}
+
+/// Where the given bytes are an image, the plain list answers alike.
+#[test]
+fn the_plain_list_agrees_on_images() {
+    let mut images = 0;
+    for (question, side) in right_hand_sides() {
+        if !question.starts_with("on:") || side == "?" {
+            continue;
+        }
+        let told = one_call(&question, &side);
+        let Some(mut list) = list_of(&told.shadows) else {
+            continue;
+        };
+        images += 1;
+        assert_eq!(list.step(told.call), told.answer, "{question}");
+        assert_eq!(
+            image(EXAMPLE_MAP, list.blocks()),
+            after(&told),
+            "{question}"
+        );
+    }
+    assert!(images > 60);
+}
+
+/// The list whose image the shadows are, made by calls alone.
+fn list_of(shadows: &Shadows) -> Option<PlainList> {
+    let blocks = decode(View {
+        map: EXAMPLE_MAP,
+        heap: &shadows.heap,
+        primary: &shadows.primary,
+        secondary: &shadows.secondary,
+    })?;
+    let mut list = PlainList::new(EXAMPLE_MAP);
+    for block in blocks {
+        let (base, length) = (block.base, block.length);
+        list.step(Call::Record { base, length });
+        for (address, _) in (base..).zip(&block.written).filter(|(_, &mark)| mark) {
+            list.step(Call::Written { address, n: 1 });
+        }
+    }
+    Some(list)
+}
+
+#[test]
+fn remarks_stay_and_other_lines_get_a_question_mark() {
+    let text = |input: &str| String::from_utf8(answered(input.as_bytes())).unwrap();
+    assert_eq!(text(""), "");
+    assert_eq!(text("\n# on: : audit\n"), "\n# on: : audit\n");
+    assert_eq!(text("run:\non::audit"), "run: =>\non::audit => 0 0 0 0 0\n");
+    let long = "9".repeat(LONGEST_LINE + 2);
+    let cut = &long[1..];
+    assert_eq!(text(&long), format!("{cut} => ?\n"));
+    let fields = " 0".repeat(16);
+    assert_eq!(
+        text(&format!("run: 9{fields}")),
+        format!("run: 9{fields} => ?\n")
+    );
+    let fields = " 0".repeat(15);
+    assert_eq!(
+        text(&format!("run: 9{fields}")),
+        format!("run: 9{fields} => 9\n")
+    );
+}
