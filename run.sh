@@ -23,7 +23,7 @@ case $#:${1-} in
 esac
 [ -f "$input" ] || fail "$input: no such file"
 for tool in rt cargo; do
-    command -v "$tool" >/dev/null || fail "$tool is not on the PATH (README, \"Commands\", says what is needed)"
+    command -v "$tool" >/dev/null || fail "$tool is not on the PATH (README, \"Two commands\", says what is needed)"
 done
 
 room=$(mktemp -d)

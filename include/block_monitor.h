@@ -47,7 +47,7 @@ enum block_monitor_number {
  *
  * map holds heap start, heap size, stack start, stack size. Addresses are numbers of 32 bits that count from the caller's own origin: a byte at
  * place p of an area has the address start + p. A shadow is a pointer and the number of bytes behind it. fields receives the answer, zero where
- * a call has none. Map, shadows and fields share no byte, and nothing else uses them until the call returns.
+ * a call has none. No pointer is null. Map, shadows and fields share no byte, and nothing else uses them until the call returns.
  */
 
 /* All shadows become zero: no block is left. */

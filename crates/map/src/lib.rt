@@ -37,11 +37,15 @@ pub fn to_address(p: Position, start: Address) -> Address
     Address(start.0 + p.0 as u32)
 }
 
-// The sum is taken in 64 bits, where it cannot wrap, so this holds for every map.
+// By the difference, which is the position: no sum that could wrap, so this holds for every map.
 fn lies_within(start: u32, size: u32, a: Address) -> bool
     ensures { λ r. ⌜ r ≡ within start size (a .0) ⌝ }
 {
-    (start <= a.0) & ((a.0 as u64) < start as u64 + size as u64)
+    let at = a.0;
+    if at < start {
+        return false;
+    }
+    at - start < size
 }
 
 impl Map {

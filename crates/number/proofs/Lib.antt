@@ -3,3 +3,4 @@ pub mod LittleLaws
 pub mod BitLaws
 pub mod PartLaws
 pub mod ZeroLaws
+pub mod WordLaws

@@ -6,7 +6,7 @@ use native.Mathlib.Omega.{arith}
 use native.Mathlib.Nat.{add-zero, add-suc, suc-add, mul-assoc, pow-suc, mul-comm, div-one, div-div-eq-div-mul}
 use lib.ListN.{length, set, take, drop}
 use lib.Pow.{pow-add}
-use lib.Seq.{drop-cons}
+use lib.Seq.{drop-cons, take-all}
 use Rattle.number.specs.Little.{le, bytesOf, Bytes, byteOf, word}
 use Rattle.number.specs.Parts.{at}
 
@@ -105,6 +105,12 @@ le4 (a ∷ (b ∷ [])) h = absurd (omega arith)
 le4 (a ∷ (b ∷ (c ∷ []))) h = absurd (omega arith)
 le4 (a ∷ (b ∷ (c ∷ (d ∷ [])))) h = omega arith
 le4 (a ∷ (b ∷ (c ∷ (d ∷ (e ∷ l))))) h = absurd (omega arith)
+
+-- eight bytes, as one sum
+pub le8 : (l : List ℕ) → length l ≡ 8
+    → at l 0 + 256 * at l 1 + 65536 * at l 2 + 16777216 * at l 3 + 4294967296 * at l 4 + 1099511627776 * at l 5 + 281474976710656 * at l 6 + 72057594037927936 * at l 7 ≡ le l
+unfolding word
+le8 l h = let e : le l ≡ word (at l) 0 8 = rw (take-all 8 l (omega arith)) at (le-word l 8 0 (omega arith)) in omega arith
 
 pub set4 : (l : List ℕ) (a b c d : ℕ) → length l ≡ 4 → set (set (set (set l 0 a) 1 b) 2 c) 3 d ≡ a ∷ (b ∷ (c ∷ (d ∷ [])))
 set4 [] a b c d h = absurd (omega arith)

@@ -1,7 +1,7 @@
 -- Parts of a list of bytes. Assumes nothing.
 use mathlib.Core.Bool.{Bool, true, cond, _&&_}
 use mathlib.Core.List.{List, [], _∷_}
-use Prim.Native.Nat.{ℕ, zero, suc, _+_}
+use Prim.Native.Nat.{ℕ, zero, suc, _+_, _%_}
 use lib.ListN.{length, getD}
 use lib.Dec.{leb, ltb, eqb}
 
@@ -18,6 +18,11 @@ tab i (suc n) f = f i ∷ tab (suc i) n f
 unfoldable pub zeros : (ℕ → ℕ) → ℕ → ℕ → Bool
 zeros f q zero = true
 zeros f q (suc n) = eqb (f q) 0 && zeros f (suc q) n
+
+-- how many of the n bytes from place q on are odd, f the bytes
+unfoldable pub oddBytes : (ℕ → ℕ) → ℕ → ℕ → ℕ
+oddBytes f q zero = 0
+oddBytes f q (suc n) = f q % 2 + oddBytes f (suc q) n
 
 -- q is one of the n places from a on
 abbrev pub inPart : (a n q : ℕ) → Bool

@@ -1,11 +1,11 @@
 // Little-endian numbers, bits, and parts of a slice.
 ghost use mathlib.Core.Path.{_≡_};
-ghost use mathlib.Core.Bool.{Bool};
+ghost use mathlib.Core.Bool.{Bool, true};
 ghost use Prim.Native.Nat.{ℕ, _+_, _-_, _≤_, _<_};
 ghost use lib.ListN.{length};
 ghost use Rattle.number.specs.Little.{le, bytesOf, byteOf, word};
 ghost use Rattle.number.specs.Bits.{bitOf, withBit, onesOf};
-ghost use Rattle.number.specs.Parts.{at, zeros, over};
+ghost use Rattle.number.specs.Parts.{at, zeros, oddBytes, over};
 
 // A byte as a wider number.
 pub fn wide(x: u8) -> u32
@@ -28,6 +28,36 @@ pub fn number_at(s: &[u8], p: usize) -> u32
     ensures { λ r. ⌜ r ≡ word (at (now (s .entry))) p 4 ⌝ }
 {
     number(&s[p..p + 4])
+}
+
+// A byte as a number of 64 bits.
+fn long(x: u8) -> u64
+    ensures { λ r. ⌜ (r ≡ x) × (r < 256) ⌝ }
+{
+    x as u64
+}
+
+// The number that eight bytes hold, as one sum, which compiles to one load.
+fn eight(bytes: &[u8]) -> u64
+    requires { ⌜ length (now bytes) ≡ 8 ⌝ }
+    ensures { λ r. ⌜ r ≡ le (now (bytes .entry)) ⌝ }
+{
+    long(bytes[0])
+        + 0x100 * long(bytes[1])
+        + 0x10000 * long(bytes[2])
+        + 0x1000000 * long(bytes[3])
+        + 0x100000000 * long(bytes[4])
+        + 0x10000000000 * long(bytes[5])
+        + 0x1000000000000 * long(bytes[6])
+        + 0x100000000000000 * long(bytes[7])
+}
+
+// The number in the eight bytes at a place of a slice.
+pub fn eight_at(s: &[u8], p: usize) -> u64
+    requires { ⌜ p + 8 ≤ length (now s) ⌝ }
+    ensures { λ r. ⌜ r ≡ word (at (now (s .entry))) p 8 ⌝ }
+{
+    eight(&s[p..p + 8])
 }
 
 // Writes a number into four bytes.
@@ -141,4 +171,27 @@ pub fn ones(byte: u8) -> u32
     ensures { λ r. ⌜ (r ≡ onesOf 8 byte) × (r ≤ 8) ⌝ }
 {
     u8::count_ones(byte)
+}
+
+// The n low bytes of a number.
+pub fn low(x: u64, n: u32) -> u64
+    requires { ⌜ (1 ≤ n) × (n ≤ 8) ⌝ }
+    ensures { λ r. ⌜ r ≡ word (byteOf x) 0 n ⌝ }
+{
+    x & (0xFFFFFFFFFFFFFFFF >> (64 - 8 * n))
+}
+
+// How many of the n low bytes of a number are odd. Modulo 255 a number is the sum of its bytes.
+pub fn odds(x: u64, n: u32) -> u32
+    requires { ⌜ (1 ≤ n) × (n ≤ 8) ⌝ }
+    ensures { λ r. ⌜ (r ≡ oddBytes (byteOf x) 0 n) × (r ≤ n) ⌝ }
+{
+    ((low(x, n) & 0x0101010101010101) % 255) as u32
+}
+
+// How many bytes of a number, from the lowest on, are zero.
+pub fn zero_bytes(x: u64) -> u32
+    ensures { λ r. ⌜ (r ≤ 8) × (zeros (byteOf x) 0 r ≡ true) ⌝ }
+{
+    u64::trailing_zeros(x) / 8
 }

@@ -1,3 +1,7 @@
 pub mod TallyLaws
 pub mod WalkLaws
 pub mod LoopLaws
+pub mod RunLaws
+pub mod KnownLaws
+pub mod PassedLaws
+pub mod TurnLaws

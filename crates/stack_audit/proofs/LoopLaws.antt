@@ -2,7 +2,7 @@
 use mathlib.Core.Path.{_≡_, _∙_}
 use mathlib.Core.Bool.{Bool, true, false, cond}
 use mathlib.Core.List.{List}
-use mathlib.Core.Option.{Option, none, some}
+use mathlib.Core.Option.{none, some}
 use Prim.Native.Nat.{ℕ, suc, _+_, _-_, _%_, _≤_, _<_, max}
 use native.Mathlib.Omega.{arith}
 use native.Mathlib.Numerals.{add-one}
@@ -13,22 +13,14 @@ use Rattle.number.specs.Bits.{ones}
 use Rattle.number.specs.Parts.{at}
 use Rattle.number.proofs.TestLaws.{Test, is-true, is-false, test}
 use Rattle.plain.specs.Blocks.{total}
-use Rattle.plain.specs.Reading.{Tally, tally}
+use Rattle.plain.specs.Reading.{tally}
 use Rattle.plain.specs.Areas.{stackRules}
 use Rattle.plain.specs.Found.{totals}
 use Rattle.stack_layout.specs.Walk.{stackWalk}
 use Rattle.stack_audit.specs.declared.walking.Walk.{Walk}
-use Rattle.stack_audit.specs.Turn.{current, stands, after}
-use Rattle.stack_audit.proofs.TallyLaws.{beside}
-use Rattle.stack_audit.proofs.WalkLaws.{start, ahead, turn}
-
--- what a turn keeps
-pub record Kept (size q : ℕ) (w : Walk) : Type 0 where
-  pub within : q ≤ size
-  pub offset : w .i < max (w .len) 1
-  pub few : w .blocks ≤ q
-  pub lives : w .live ≤ q
-  pub marks : w .written ≤ q
+use Rattle.stack_audit.specs.Turn.{current, stands, past, after}
+use Rattle.stack_audit.specs.Rest.{beside, ahead, rest, Kept}
+use Rattle.stack_audit.proofs.WalkLaws.{start, turn}
 
 -- the offset is one of the block that goes on or begins
 pub offset-in : (size : ℕ) (pr se : ℕ → ℕ) (q i L K : ℕ) → i < max L 1 → K ≡ current size pr se q L → i < max K 1
@@ -40,7 +32,7 @@ offset-in size pr se q i L K h e = go (test (eqb L 0))
     go (is-false a) = let x : K ≡ L = rw a at e in omega arith
 
 pub keeps : (size q K m : ℕ) (w v : Walk) → q < size → Kept size q w → w .i < max K 1 → m < 2 → v ≡ after w K m → Kept size (q + 1) v
-unfolding after
+unfolding after past
 keeps size q K m w v h k f g e = rw e (go (test (eqb K 0)) (test (leb K (w .i + 1))))
   where
     go : Test (eqb K 0) → Test (leb K (w .i + 1)) → Kept size (q + 1) (after w K m)
@@ -51,29 +43,25 @@ keeps size q K m w v h k f g e = rw e (go (test (eqb K 0)) (test (leb K (w .i + 
         rw (a, b) (record { within = omega arith; offset = omega arith; few = omega arith; lives = omega arith; marks = omega arith })
 
 module _ (P S : List ℕ) where
-  -- what is ahead of a walk that has come to q
-  unfoldable pub rest : (q : ℕ) → Walk → Option Tally
-  rest q w = ahead (length P) (at P) (at S) (length P - q) q w
-
-  pub rest-start : totals (stackRules 0 (length P)) (stackWalk (length P) (at P) (at S) (length P) 0 0 0) ≡ rest 0 (record { len = 0; i = 0; blocks = 0; live = 0; written = 0 })
+  pub rest-start : totals (stackRules 0 (length P)) (stackWalk (length P) (at P) (at S) (length P) 0 0 0) ≡ rest P S 0 (record { len = 0; i = 0; blocks = 0; live = 0; written = 0 })
   unfolding rest ahead
   rest-start = let e : length P - 0 ≡ length P = omega arith in rw e (start (length P) (at P) (at S) (length P) 0)
 
   module _ (q K : ℕ) (w : Walk) (t : Bool) (h : q < length P) (o : w .i < max (w .len) 1) (e : K ≡ current (length P) (at P) (at S) q (w .len))
       (s : t ≡ stands (at P q) (at S q) K (w .i)) where
-    step : rest q w ≡ cond t (rest (q + 1) (after w K (at P q % 2))) none
+    step : rest P S q w ≡ cond t (rest P S (q + 1) (after w K (at P q % 2))) none
     unfolding rest
     step =
         let n : length P - q ≡ suc (length P - (q + 1)) = omega arith in
         rw (n, s, add-one q) (turn (length P) (at P) (at S) (length P - suc q) q w K o e)
 
-    pub rest-on : (v : Walk) (m : ℕ) → t ≡ true → m ≡ at P q % 2 → v ≡ after w K m → rest q w ≡ rest (q + 1) v
+    pub rest-on : (v : Walk) (m : ℕ) → t ≡ true → m ≡ at P q % 2 → v ≡ after w K m → rest P S q w ≡ rest P S (q + 1) v
     rest-on v m a b c = step ∙ rw (a, c, b)
 
-    pub rest-bad : t ≡ false → rest q w ≡ none
+    pub rest-bad : t ≡ false → rest P S q w ≡ none
     rest-bad a = step ∙ rw a
 
-  pub rest-end : (q : ℕ) (w : Walk) → length P ≤ q → w .len ≡ 0 → rest q w ≡ some (tally 0 (w .blocks) (w .live) (w .written))
+  pub rest-end : (q : ℕ) (w : Walk) → length P ≤ q → w .len ≡ 0 → rest P S q w ≡ some (tally 0 (w .blocks) (w .live) (w .written))
   unfolding rest ahead stackWalk beside total ones
   rest-end q w h z =
       let n : length P - q ≡ 0 = omega arith in
@@ -82,7 +70,7 @@ module _ (P S : List ℕ) where
       let c : w .blocks + 0 + 0 ≡ w .blocks = omega arith in
       rw (n, z, c, u, v)
 
-  pub rest-open : (q : ℕ) (w : Walk) → length P ≤ q → (w .len ≡ 0 → ⊥) → rest q w ≡ none
+  pub rest-open : (q : ℕ) (w : Walk) → length P ≤ q → (w .len ≡ 0 → ⊥) → rest P S q w ≡ none
   unfolding rest ahead stackWalk beside
   rest-open q w h z =
       let n : length P - q ≡ 0 = omega arith in

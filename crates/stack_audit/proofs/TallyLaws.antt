@@ -2,21 +2,15 @@
 use mathlib.Core.Path.{_≡_, refl}
 use mathlib.Core.Bool.{Bool, true, false}
 use mathlib.Core.List.{List, [], _∷_}
-use mathlib.Core.Option.{Option, none, some}
 use Prim.Native.Nat.{ℕ, suc, _+_, _-_}
 use native.Mathlib.Omega.{arith}
 use lib.ListN.{length}
 use Rattle.number.specs.Bits.{bit, ones}
 use Rattle.plain.specs.Block.{Block}
 use Rattle.plain.specs.Blocks.{total, count, live, written}
-use Rattle.plain.specs.Reading.{Tally, tally}
 use Rattle.plain.specs.Areas.{stackRules}
 use Rattle.plain.specs.Found.{Found, bad, got, goesOn, begins, totals}
-
--- what is found, beside the blocks, live bytes and written bytes that were counted
-unfoldable pub beside : (b l m : ℕ) → Found → Option Tally
-beside b l m bad = none
-beside b l m (got ms bs) = some (tally 0 (b + count (λ a. true) bs) (l + (length ms + live bs)) (m + (ones ms + written bs)))
+use Rattle.stack_audit.specs.Rest.{beside}
 
 pub beside-on : (b l m : ℕ) (t : Bool) (f : Found) → beside b l m (goesOn (t ∷ []) f) ≡ beside b (l + 1) (m + bit t) f
 unfolding beside ones

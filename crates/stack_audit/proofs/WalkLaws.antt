@@ -20,9 +20,10 @@ use Rattle.plain.specs.Found.{Found, bad, goesOn, begins, totals}
 use Rattle.stack_layout.specs.Code.{shortCode, codeOf, primaryOf, secondaryOf, lengthFrom, shortLength}
 use Rattle.stack_layout.specs.Walk.{isClear, isByte, lengthAt, stackWalk}
 use Rattle.stack_audit.specs.declared.walking.Walk.{Walk}
-use Rattle.stack_audit.specs.Turn.{told, current, stands, after}
+use Rattle.stack_audit.specs.Turn.{told, current, stands, past, after}
+use Rattle.stack_audit.specs.Rest.{beside, ahead}
 use Rattle.stack.proofs.CodeLaws.{short-small}
-use Rattle.stack_audit.proofs.TallyLaws.{beside, beside-on, beside-begins, Unmarked, no, yes, begins-unmarked, totals-beside}
+use Rattle.stack_audit.proofs.TallyLaws.{beside-on, beside-begins, Unmarked, no, yes, begins-unmarked, totals-beside}
 
 -- a block that may begin at q: the walk looks at the length H that is told, the code at T
 open-cases : {F : Type 0} (size q H T : ℕ) (clear : Bool) (fit : ℕ → Bool) (idle stop : F) (on : ℕ → F)
@@ -122,10 +123,6 @@ module _ (size : ℕ) (pr se : ℕ → ℕ) where
   unfolding stackWalk stands isByte
   on-step n q L i h = rw (ne-eqb L 0 h)
 
-  -- what is ahead of a walk that has n bytes left, from q on; the block that goes on there was not counted yet
-  unfoldable pub ahead : (n q : ℕ) → Walk → Option Tally
-  ahead n q w = beside (w .blocks + cond (eqb (w .len) 0) 0 1) (w .live) (w .written) (stackWalk size pr se n q (w .len) (w .i))
-
   -- past a block's last byte the code counts from 0 again
   reset : (n q K i : ℕ) → stackWalk size pr se n q (cond (leb K (i + 1)) 0 K) (cond (leb K (i + 1)) 0 (i + 1)) ≡ stackWalk size pr se n q (cond (leb K (suc i)) 0 K) (suc i)
   reset n q K i = rw (add-one i) (go (leb K (suc i)))
@@ -134,21 +131,21 @@ module _ (size : ℕ) (pr se : ℕ → ℕ) where
       go true = sym (idle n q (suc i))
       go false = refl
 
-  -- what is ahead past byte i of a block of length K at q, however the walk goes on
-  past : (n q : ℕ) → Walk → (K : ℕ) → Option Tally
-  past n q w K = beside (w .blocks + 1) (w .live + 1) (w .written + pr q % 2) (stackWalk size pr se n (suc q) (cond (leb K (suc (w .i))) 0 K) (suc (w .i)))
+  -- what is ahead beyond byte i of a block of length K at q, however the walk goes on
+  beyond : (n q : ℕ) → Walk → (K : ℕ) → Option Tally
+  beyond n q w K = beside (w .blocks + 1) (w .live + 1) (w .written + pr q % 2) (stackWalk size pr se n (suc q) (cond (leb K (suc (w .i))) 0 K) (suc (w .i)))
 
-  past-after : (n q : ℕ) (w : Walk) (K : ℕ) → eqb K 0 ≡ false → ahead n (suc q) (after w K (pr q % 2)) ≡ past n q w K
-  unfolding ahead after past
-  past-after n q w K k = rw (k, counted (w .blocks) K k (leb K (w .i + 1))) (ap (beside (w .blocks + 1) (w .live + 1) (w .written + pr q % 2)) (reset n (suc q) K (w .i)))
+  beyond-after : (n q : ℕ) (w : Walk) (K : ℕ) → eqb K 0 ≡ false → ahead size pr se n (suc q) (after w K (pr q % 2)) ≡ beyond n q w K
+  unfolding ahead after past beyond
+  beyond-after n q w K k = rw (k, counted (w .blocks) K k (leb K (w .i + 1))) (ap (beside (w .blocks + 1) (w .live + 1) (w .written + pr q % 2)) (reset n (suc q) K (w .i)))
 
   low-bit : (q : ℕ) → bit (eqb (pr q % 2) 1) ≡ pr q % 2
   low-bit q = bit-test (pr q % 2) (mod-lt (pr q) (lit< tt))
 
   -- a turn where no block goes on
   turn-open : (n q : ℕ) (w : Walk) (K : ℕ) → w .len ≡ 0 → w .i ≡ 0 → K ≡ current size pr se q 0 → Test (stands (pr q) (se q) K (w .i)) → Test (eqb K 0)
-      → ahead (suc n) q w ≡ cond (stands (pr q) (se q) K (w .i)) (ahead n (suc q) (after w K (pr q % 2))) none
-  unfolding ahead after past beside
+      → ahead size pr se (suc n) q w ≡ cond (stands (pr q) (se q) K (w .i)) (ahead size pr se n (suc q) (after w K (pr q % 2))) none
+  unfolding ahead after past beyond beside
   turn-open n q w K z y x (is-false s) k =
       let s′ : stands (pr q) (se q) K 0 ≡ false = rw y at s in
       rw (z, y, open-step n q 0, ← x, s′)
@@ -157,25 +154,25 @@ module _ (size : ℕ) (pr se : ℕ → ℕ) where
       rw (k, z, y, open-step n q 0, ← x, s′, k)
   turn-open n q w K z y x (is-true s) (is-false k) =
       let s′ : stands (pr q) (se q) K 0 ≡ true = rw y at s in
-      let l : ahead (suc n) q w ≡ past n q w K = rw (z, y, open-step n q 0, ← x, s′, k, beside-begins, low-bit q, add-zero) in
-      rw s (l ∙ sym (past-after n q w K k))
+      let l : ahead size pr se (suc n) q w ≡ beyond n q w K = rw (z, y, open-step n q 0, ← x, s′, k, beside-begins, low-bit q, add-zero) in
+      rw s (l ∙ sym (beyond-after n q w K k))
 
   -- a turn where one does
   turn-on : (n q : ℕ) (w : Walk) (K : ℕ) → eqb (w .len) 0 ≡ false → K ≡ w .len → Test (stands (pr q) (se q) K (w .i))
-      → ahead (suc n) q w ≡ cond (stands (pr q) (se q) K (w .i)) (ahead n (suc q) (after w K (pr q % 2))) none
-  unfolding ahead after past beside
+      → ahead size pr se (suc n) q w ≡ cond (stands (pr q) (se q) K (w .i)) (ahead size pr se n (suc q) (after w K (pr q % 2))) none
+  unfolding ahead after past beyond beside
   turn-on n q w K a x (is-false s) = rw (a, on-step n q (w .len) (w .i) (eqb-false (w .len) 0 a), ← x, s)
   turn-on n q w K a x (is-true s) =
-      let l : ahead (suc n) q w ≡ past n q w K = rw (a, on-step n q (w .len) (w .i) (eqb-false (w .len) 0 a), ← x, s, beside-on, low-bit q) in
-      rw s (l ∙ sym (past-after n q w K (rw (← x) at a)))
+      let l : ahead size pr se (suc n) q w ≡ beyond n q w K = rw (a, on-step n q (w .len) (w .i) (eqb-false (w .len) 0 a), ← x, s, beside-on, low-bit q) in
+      rw s (l ∙ sym (beyond-after n q w K (rw (← x) at a)))
 
   -- a turn of the loop
   pub turn : (n q : ℕ) (w : Walk) (K : ℕ) → w .i < max (w .len) 1 → K ≡ current size pr se q (w .len)
-      → ahead (suc n) q w ≡ cond (stands (pr q) (se q) K (w .i)) (ahead n (suc q) (after w K (pr q % 2))) none
+      → ahead size pr se (suc n) q w ≡ cond (stands (pr q) (se q) K (w .i)) (ahead size pr se n (suc q) (after w K (pr q % 2))) none
   unfolding current
   turn n q w K h e = go (test (eqb (w .len) 0)) (test (stands (pr q) (se q) K (w .i))) (test (eqb K 0))
     where
       go : Test (eqb (w .len) 0) → Test (stands (pr q) (se q) K (w .i)) → Test (eqb K 0)
-          → ahead (suc n) q w ≡ cond (stands (pr q) (se q) K (w .i)) (ahead n (suc q) (after w K (pr q % 2))) none
+          → ahead size pr se (suc n) q w ≡ cond (stands (pr q) (se q) K (w .i)) (ahead size pr se n (suc q) (after w K (pr q % 2))) none
       go (is-true a) s k = let z : w .len ≡ 0 = eqb-true (w .len) 0 a in turn-open n q w K z (omega arith) (rw z at e) s k
       go (is-false a) s k = turn-on n q w K a (rw a at e) s

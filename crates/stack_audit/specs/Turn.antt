@@ -18,14 +18,17 @@ current size pr se q L = cond (eqb L 0) (cond (leb (q + told size pr se q) size)
 unfoldable pub stands : (x y k i : ℕ) → Bool
 stands x y k i = cond (eqb k 0) (eqb x 0 && eqb y 0) (eqb x (primaryOf k i (x % 2)) && eqb y (secondaryOf k i))
 
--- the walk past a byte of a block of length k, m its written bit, which counts where it ends; past a byte of none where k is 0
-unfoldable pub after : Walk → (k m : ℕ) → Walk
-after w k m =
-    cond (eqb k 0) w
-    (record {
-      len = cond (leb k (w .i + 1)) 0 k;
-      i = cond (leb k (w .i + 1)) 0 (w .i + 1);
-      blocks = w .blocks + cond (leb k (w .i + 1)) 1 0;
-      live = w .live + 1;
+-- the walk past n bytes of a block of length k, m of them written; the block counts where it ends
+unfoldable pub past : Walk → (k n m : ℕ) → Walk
+past w k n m =
+    record {
+      len = cond (leb k (w .i + n)) 0 k;
+      i = cond (leb k (w .i + n)) 0 (w .i + n);
+      blocks = w .blocks + cond (leb k (w .i + n)) 1 0;
+      live = w .live + n;
       written = w .written + m;
-    })
+    }
+
+-- the walk past a byte of a block of length k, m its written bit; past a byte of none where k is 0
+unfoldable pub after : Walk → (k m : ℕ) → Walk
+after w k m = cond (eqb k 0) w (past w k 1 m)

@@ -2,7 +2,7 @@
 ghost use mathlib.Core.Path.{_≡_};
 ghost use Prim.Native.Nat.{_+_, _-_, _<_, _≤_};
 ghost use Rattle.number.specs.Little.{byteOf};
-ghost use Rattle.stack_layout.specs.Code.{pieceOf, codeOf, secondaryOf};
+ghost use Rattle.stack_layout.specs.Code.{pieceOf, codeOf, secondaryOf, shortLength};
 
 // The offset of the piece that holds byte i of a long block.
 pub fn piece_of(len: u32, i: u32) -> u32
@@ -15,6 +15,35 @@ pub fn piece_of(len: u32, i: u32) -> u32
         return 8 * k;
     }
     8 * last
+}
+
+// The length that a code of 1 to 36 tells. Tests, and no table: the walk goes on before they are settled.
+pub fn short_length(code: u8) -> u32
+    requires { ⌜ (1 ≤ code) × (code ≤ 36) ⌝ }
+    ensures { λ r. ⌜ r ≡ shortLength code ⌝ }
+{
+    if code <= 1 {
+        return 1;
+    }
+    if code <= 3 {
+        return 2;
+    }
+    if code <= 6 {
+        return 3;
+    }
+    if code <= 10 {
+        return 4;
+    }
+    if code <= 15 {
+        return 5;
+    }
+    if code <= 21 {
+        return 6;
+    }
+    if code <= 28 {
+        return 7;
+    }
+    8
 }
 
 // The code of byte i of a block.

@@ -1,8 +1,11 @@
-// The audit of the two stack shadows, byte by byte.
+// The audit of the two stack shadows: a walk from byte to byte, which passes runs of zeros and pieces of a block at once.
 mod coding;
+mod runs;
+mod turning;
 mod walking;
 
 use plain::Audit;
+use turning::Moved;
 use walking::Walk;
 ghost use mathlib.Core.Path.{_≡_};
 ghost use Prim.Native.Nat.{_≤_};
@@ -24,13 +27,15 @@ pub fn audit(primary: &[u8], secondary: &[u8]) -> Audit
     };
     let mut q = 0;
     while q < primary.len() {
-        let k = walking::current(primary, secondary, q, w.len);
-        let x = primary[q];
-        if !walking::stands(x, secondary[q], k, w.i) {
-            return Audit::NoImage;
+        match turning::turn(primary, secondary, q, w) {
+            Moved::On(v, n) => {
+                w = v;
+                q += n;
+            }
+            Moved::NoImage => {
+                return Audit::NoImage;
+            }
         }
-        w = walking::after(w, k, x & 1);
-        q += 1;
     }
     if w.len == 0 {
         return Audit::Totals(w.blocks, w.live, w.written);

@@ -6,7 +6,7 @@ ghost use Rattle.number.specs.Parts.{at};
 ghost use Rattle.stack_audit.specs.Turn as turn;
 use crate::coding::code_at;
 use crate::coding::secondary_at;
-use stack::short_length;
+use crate::coding::short_length;
 
 // The block that goes on, its length 0 where none does, and the next byte's offset in it; the totals so far.
 pub struct Walk {
@@ -61,17 +61,14 @@ pub fn stands(x: u8, y: u8, k: u32, i: u32) -> bool
     (x == ((code_at(k, i) << 2) | (x & 1))) & (y == secondary_at(k, i))
 }
 
-// The walk past a byte of a block of length k, or of none where k is 0. A block counts where it ends.
-pub fn after(w: Walk, k: u32, written: u8) -> Walk
-    requires { ⌜ (w .i < max k 1) × (w .blocks < 65536) × (w .live < 65536) × (w .written < 65536) ⌝ }
-    ensures { λ r. ⌜ r ≡ turn.after w k written ⌝ }
+// The walk past n bytes of a block of length k. A block counts where it ends.
+pub fn past(w: Walk, k: u32, n: u32, written: u32) -> Walk
+    requires { ⌜ (w .i + n ≤ k) × (w .blocks < 65536) × (w .live + n ≤ 65536) × (w .written + written ≤ 65536) ⌝ }
+    ensures { λ r. ⌜ r ≡ turn.past w k n written ⌝ }
 {
-    if k == 0 {
-        return w;
-    }
-    let i = w.i + 1;
-    let live = w.live + 1;
-    let marks = w.written + number::wide(written);
+    let i = w.i + n;
+    let live = w.live + n;
+    let marks = w.written + written;
     if k <= i {
         return Walk {
             len: 0,
@@ -88,4 +85,15 @@ pub fn after(w: Walk, k: u32, written: u8) -> Walk
         live: live,
         written: marks,
     }
+}
+
+// The walk past a byte of a block of length k, or of none where k is 0.
+pub fn after(w: Walk, k: u32, written: u8) -> Walk
+    requires { ⌜ (w .i < max k 1) × (w .blocks < 65536) × (w .live < 65536) × (w .written < 65536) × (written < 2) ⌝ }
+    ensures { λ r. ⌜ r ≡ turn.after w k written ⌝ }
+{
+    if k == 0 {
+        return w;
+    }
+    past(w, k, 1, number::wide(written))
 }

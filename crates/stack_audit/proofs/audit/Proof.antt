@@ -4,12 +4,12 @@ use Prim.Native.Nat.{_-_}
 use native.Mathlib.Omega.{arith}
 use denote.Ref.{now}
 use lib.ListN.{length}
-use lib.Bits.{bitAnd, and-mask, mask-lt}
 use borrow.Author.Needs.{needs}
-use borrow.Author.Tests.{not-true, not-false}
-use Rattle.number.specs.Parts.{at}
 use Rattle.stack_layout.specs.Ops.{stackOps}
-use Rattle.stack_audit.proofs.LoopLaws.{Kept, keeps, offset-in, rest, rest-start, rest-on, rest-bad, rest-end, rest-open}
+use Rattle.stack_audit.specs.declared.turning.Moved.the-variants.{On, NoImage}
+use Rattle.stack_audit.specs.Rest.{rest, Kept, Turned}
+use Rattle.stack_audit.proofs.LoopLaws.{rest-start, rest-end, rest-open}
+use Rattle.stack_audit.proofs.TurnLaws.{turned}
 use Rattle.stack_audit.proofs.audit.Statement.{statement}
 use Rattle.stack_audit.proofs.audit.Tie as tie
 
@@ -26,68 +26,52 @@ loop-holds c = (
   rest-start (now (c .before .before .args .primary)) (now (c .before .before .args .secondary)),
 )
 
-current-requires : tie.Need-current-requires Inv-loop μ-loop
-current-requires c κs = search needs
+turn-requires : tie.Need-turn-requires Inv-loop μ-loop
+turn-requires c κs = search needs
 
-shared-slice-read-x : tie.Need-shared-slice-read-x Inv-loop μ-loop
-shared-slice-read-x c = search needs
+enum-known-v : tie.Need-enum-known-v Inv-loop μ-loop
+enum-known-v c = search needs
 
-shared-slice-read-stands : tie.Need-shared-slice-read-stands Inv-loop μ-loop
-shared-slice-read-stands c = search needs
+-- what the turn has come to
+went : (c : tie.After-known-told Inv-loop μ-loop)
+    → let l = c .before .before .before .before .before .loop in
+    let a = c .before .before .before .before .before .before .before .before .args in
+    Turned (now (a .primary)) (now (a .secondary)) (l .q) (l .w) (On (c .before .v .given .0 .0) (c .before .v .given .0 .1 .0))
+went c =
+    let l = c .before .before .before .before .before .loop in
+    let a = c .before .before .before .before .before .before .before .before .args in
+    turned (now (a .primary)) (now (a .secondary)) (l .q) (l .w) _ (On (c .before .v .given .0 .0) (c .before .v .given .0 .1 .0))
+    (c .before .before .before .turn .ensures) (c .before .v .given .1)
 
-stands-requires : tie.Need-stands-requires Inv-loop μ-loop
-stands-requires c κs =
-    let s = c .before .before .before .before .before .before .before in
-    let l = c .before .before .before .before .loop in
-    offset-in (length (now (s .args .primary))) (at (now (s .args .primary))) (at (now (s .args .secondary))) (l .q) (l .w .i) (l .w .len) _ (l .inv .0 .offset) (c .before .before .current .ensures)
+add-q : tie.Need-add-q Inv-loop μ-loop
+add-q c = omega (arith, went c .2)
+
+loop-less : tie.Need-loop-less Inv-loop μ-loop
+loop-less c = omega (arith, went c .1)
+
+loop-again : tie.Need-loop-again Inv-loop μ-loop
+loop-again c = (went c .2, c .before .before .before .before .before .loop .inv .1 ∙ went c .0)
+
+enum-told : tie.Need-enum-told Inv-loop μ-loop
+enum-told c = search needs
 
 returns : tie.Need-returns Inv-loop μ-loop
 returns c =
-    let s = c .before .before .before .before .before .before .before .before .before in
-    let l = c .before .before .before .before .before .before .loop in
-    sym (l .inv .1 ∙ rest-bad (now (s .args .primary)) (now (s .args .secondary)) (l .q) _ (l .w) _ (omega arith) (l .inv .0 .offset) (c .before .before .before .before .current .ensures) (c .before .stands .ensures) (not-true _ (c .if1 .taken)))
-
-after-requires : tie.Need-after-requires Inv-loop μ-loop
-after-requires c κs =
-    let s = c .before .before .before .before .before .before .before .before .before in
-    let l = c .before .before .before .before .before .before .loop in (
-      offset-in (length (now (s .args .primary))) (at (now (s .args .primary))) (at (now (s .args .secondary))) (l .q) (l .w .i) (l .w .len) _ (l .inv .0 .offset) (c .before .before .before .before .current .ensures),
-      omega arith,
-      omega arith,
-      omega arith,
-    )
-
-add-q : tie.Need-add-q Inv-loop μ-loop
-add-q c = search needs
-
-loop-less : tie.Need-loop-less Inv-loop μ-loop
-loop-less c = search needs
-
-loop-again : tie.Need-loop-again Inv-loop μ-loop
-loop-again c =
-    let s = c .before .before .before .before .before .before .before .before .before .before in
-    let l = c .before .before .before .before .before .before .before .loop in
-    let P = now (s .args .primary) in
-    let S = now (s .args .secondary) in
-    let k = c .before .before .before .before .before .current in
-    let x = at P (l .q) in (
-      keeps (length P) (l .q) (k .result) (bitAnd x 1) (l .w) (c .after .result) (omega arith) (l .inv .0)
-          (offset-in (length P) (at P) (at S) (l .q) (l .w .i) (l .w .len) (k .result) (l .inv .0 .offset) (k .ensures)) (mask-lt x 1) (c .after .ensures),
-      l .inv .1 ∙ rest-on P S (l .q) (k .result) (l .w) _ (omega arith) (l .inv .0 .offset) (k .ensures) (c .before .before .stands .ensures)
-          (c .after .result) (bitAnd x 1) (not-false _ (c .before .if1 .left)) (and-mask x 1) (c .after .ensures),
-    )
+    let l = c .before .before .before .before .loop in
+    let a = c .before .before .before .before .before .before .before .args in
+    sym (l .inv .1 ∙ turned (now (a .primary)) (now (a .secondary)) (l .q) (l .w) _ NoImage (c .before .before .turn .ensures) (c .enum-told .given .1))
 
 returns-2 : tie.Need-returns-2 Inv-loop μ-loop
 returns-2 c =
     let s = c .before .before .before .before .before .before in
     let l = c .before .before .before .loop in
-    sym (l .inv .1 ∙ rest-end (now (s .args .primary)) (now (s .args .secondary)) (l .q) (l .w) (omega arith) (c .if2 .taken))
+    sym (l .inv .1 ∙ rest-end (now (s .args .primary)) (now (s .args .secondary)) (l .q) (l .w) (omega arith) (c .if1 .taken))
 
 returns-3 : tie.Need-returns-3 Inv-loop μ-loop
 returns-3 c =
     let s = c .before .before .before .before .before .before in
     let l = c .before .before .before .loop in
-    sym (l .inv .1 ∙ rest-open (now (s .args .primary)) (now (s .args .secondary)) (l .q) (l .w) (omega arith) (c .if2 .left))
+    sym (l .inv .1 ∙ rest-open (now (s .args .primary)) (now (s .args .secondary)) (l .q) (l .w) (omega arith) (c .if1 .left))
 
 pub audit-spec : {M : Type 1} → statement M
 audit-spec =
@@ -96,14 +80,12 @@ audit-spec =
     Inv-loop
     μ-loop
     loop-holds
-    current-requires
-    shared-slice-read-x
-    shared-slice-read-stands
-    stands-requires
-    returns
-    after-requires
+    turn-requires
+    enum-known-v
     add-q
     loop-less
     loop-again
+    enum-told
+    returns
     returns-2
     returns-3)
