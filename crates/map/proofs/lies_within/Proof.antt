@@ -12,8 +12,8 @@ use Rattle.map.proofs.lies_within.Tie as tie
 below-size : (start size a : ℕ) → start ≤ a → ltb (a - start) size ≡ within start size a
 below-size start size a h =
     same-test (ltb (a - start) size) (within start size a)
-        (λ e. in-true start (start + size) a h (let l = ltb-true (a - start) size e in omega arith))
-        (λ e. lt-ltb (a - start) size (let l = in-facts start (start + size) a e .1 in omega arith))
+    (λ e. in-true start (start + size) a h (let l = ltb-true (a - start) size e in omega arith))
+    (λ e. lt-ltb (a - start) size (let l = in-facts start (start + size) a e .1 in omega arith))
 
 returns : tie.Need-returns
 returns c =
