@@ -8,6 +8,7 @@ cargo test --quiet --release --offline --manifest-path model/Cargo.toml
 rt staticlib monitor_c
 examples/test-c.sh
 cargo test --quiet --release --offline --manifest-path linked/Cargo.toml
+cargo test --quiet --release --offline --manifest-path bench/Cargo.toml
 rt check calls
 cargo test --quiet --release --offline --manifest-path calls_text/Cargo.toml
 exec rt ci

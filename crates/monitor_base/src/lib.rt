@@ -1,8 +1,9 @@
-// What every call of the monitor rests on: its answer, the check of map and lengths, and the reading of an address.
-pub mod finding;
+// What every call of the monitor rests on: its answer, the check of map and lengths, and where an address lies.
 pub mod guard;
+pub mod locating;
 
 use map::Address;
+use map::Position;
 
 // The number, 0 for accepted, and the answer fields in their order, zero where unused.
 pub struct Answer {
@@ -25,11 +26,9 @@ pub enum Call {
     Audit,
 }
 
-// The reading of an address: base, length, offset and written bit, or that it lies in neither area. The order is that of a reading's
-// cases, so that the one becomes the other at no cost.
-pub enum Found {
-    Nothing,
-    Block(Address, u32, u32, u8),
-    Damaged,
+// Where an address lies: its position in the area's shadow.
+pub enum Located {
+    Heap(Position),
+    Stack(Position),
     Outside,
 }

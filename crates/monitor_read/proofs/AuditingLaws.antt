@@ -21,7 +21,7 @@ use Rattle.shadows.proofs.TotalLaws.{audit-small}
 use Rattle.monitor_read.specs.Audited.{auditsAnswer, sumsFit}
 use Rattle.monitor_base.specs.Calls.{call}
 use Rattle.monitor_base.proofs.CallLaws.{call-step}
-use Rattle.monitor_base.proofs.FindingLaws.{heap-lengths, stack-lengths}
+use Rattle.monitor_base.proofs.LocatingLaws.{heap-lengths, stack-lengths}
 
 module _ (m : Map) (s : Shadows) (ok : goodMap m ≡ true) (fit : lengthsFit m s ≡ true) (h k : Audit)
     (eh : heapTally h ≡ heapOps 4 8 (length (s .0)) .audit (s .0)) (ek : stackTally k ≡ stackOps (length (s .1 .0)) .audit (s .1)) where

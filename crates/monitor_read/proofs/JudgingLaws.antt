@@ -1,69 +1,85 @@
--- The calls about n bytes, by readings. Assumes nothing.
-use mathlib.Core.Path.{_≡_, refl, sym, ap, _∙_}
-use mathlib.Core.Bool.{Bool, true, false, _&&_, _||_}
-use mathlib.Core.Logic.{_≢_}
-use Prim.Native.Nat.{ℕ}
-use borrow.Author.Tests.{eq-eqb, ne-eqb}
-use Rattle.map.specs.declared.Map.{Map}
-use Rattle.map.specs.Map.{goodMap}
-use Rattle.plain.specs.Areas.{mapRules}
-use Rattle.plain.specs.Call.{Answer, valid, initialised, refusal, yesNo}
-use Rattle.plain.specs.Ops.{readAny, rangeMarked}
-use Rattle.plain.specs.Reading.{Reading}
-use Rattle.plain.specs.ShadowCalls.{isDamaged, inOne, sameBlock, shadowStep}
-use Rattle.shadows.specs.Shadows.{Shadows, lengthsFit, shadowOps}
-use Rattle.monitor_read.specs.Asked.{validAnswer}
-use Rattle.monitor_base.specs.Calls.{call}
-use Rattle.monitor_base.proofs.CallLaws.{call-step}
+-- What two readings say of n bytes: by tests that are known, and told by addresses. Assumes nothing.
+use mathlib.Core.Path.{_≡_, refl, sym, _∙_}
+use mathlib.Core.Bool.{Bool, true, false, _&&_, _||_, false≢true}
+use Prim.Native.Nat.{ℕ, _+_}
+use native.Mathlib.Omega.{arith}
+use lib.Dec.{leb}
+use Rattle.number.proofs.TestLaws.{Test, is-true, is-false, test, and-false-r, eqb-same}
+use Rattle.plain.specs.Call.{Answer, refusal, yesNo}
+use Rattle.plain.specs.Lift.{readingUp}
+use Rattle.plain.specs.Reading.{Reading, nothing, block, damaged}
+use Rattle.plain.specs.ShadowCalls.{isDamaged, inOne, sameBlock}
+use Rattle.monitor_read.specs.Asked.{validAnswer, apartAnswer, initialisedAnswer}
 
--- ---- valid's answer, by tests that are known
+-- ---- the answers, by tests that are known
 
-module _ (n : ℕ) (r q : Reading) (d e : Bool) (ed : d ≡ isDamaged r) (ee : e ≡ isDamaged q) where
-  pub valid-damaged : (d || e) ≡ true → (x : Answer) → x ≡ refusal 8 → x ≡ validAnswer n r q
+module _ (r q : Reading) (d e : Bool) (ed : d ≡ isDamaged r) (ee : e ≡ isDamaged q) where
+  pub apart-damaged : (d || e) ≡ true → (x : Answer) → x ≡ refusal 8 → x ≡ apartAnswer r q
+  unfolding apartAnswer
+  apart-damaged h x y = rw (← ed, ← ee, h) y
+
+  pub apart-whole : (d || e) ≡ false → (x : Answer) → x ≡ yesNo false → x ≡ apartAnswer r q
+  unfolding apartAnswer
+  apart-whole h x y = rw (← ed, ← ee, h) y
+
+module _ (n : ℕ) (r q : Reading) (i k : Bool) (ei : i ≡ inOne n r) (ek : k ≡ sameBlock r q) where
+  pub valid-one : (i && k) ≡ true → (x : Answer) → x ≡ yesNo true → x ≡ validAnswer n r q
   unfolding validAnswer
-  valid-damaged h x y = rw (← ed, ← ee, h) y
-
-  pub valid-whole : (d || e) ≡ false → (i k : Bool) → i ≡ inOne n r → k ≡ sameBlock r q → (x : Answer) → x ≡ yesNo (i && k) → x ≡ validAnswer n r q
-  unfolding validAnswer
-  valid-whole h i k ei ek x y = rw (← ed, ← ee, h, ← ei, ← ek) y
-
--- ---- the calls
-
-module _ (m : Map) (s : Shadows) (ok : goodMap m ≡ true) (fit : lengthsFit m s ≡ true) where
-  abbrev rd : ℕ → Reading
-  rd = readAny (mapRules m) (shadowOps m) s
-
-  -- no byte
-  pub valid-none : (a n from : ℕ) → n ≡ 0 → call m (valid a n from) s ≡ (s, refusal 3)
-  unfolding shadowStep
-  valid-none a n from z = call-step m (valid a n from) s ok fit ∙ rw (eq-eqb n 0 z)
-
-  pub valid-reads : (a n from : ℕ) → n ≢ 0 → (r q : Reading) → r ≡ rd a → q ≡ rd from → call m (valid a n from) s ≡ (s, validAnswer n r q)
-  unfolding shadowStep validAnswer
-  valid-reads a n from z r q er eq = call-step m (valid a n from) s ok fit ∙ rw (er, eq) (by (isDamaged (rd a) || isDamaged (rd from)) refl)
+  valid-one h x y = go r q (rw (ei, ek) at h)
     where
-      by : (t : Bool) → (isDamaged (rd a) || isDamaged (rd from)) ≡ t → shadowStep (mapRules m) (shadowOps m) (valid a n from) s ≡ (s, validAnswer n (rd a) (rd from))
-      by true t = rw (ne-eqb n 0 z, t)
-      by false t = rw (ne-eqb n 0 z, t)
+      go : (r q : Reading) → (inOne n r && sameBlock r q) ≡ true → x ≡ validAnswer n r q
+      go nothing q t = absurd (false≢true t)
+      go damaged q t = absurd (false≢true t)
+      go (block b l o w) nothing t = absurd (false≢true (sym (and-false-r (leb (o + n) l) false refl) ∙ t))
+      go (block b l o w) damaged t = absurd (false≢true (sym (and-false-r (leb (o + n) l) false refl) ∙ t))
+      go (block b l o w) (block c m j v) t = rw t y
 
-  -- where both readings are one
-  pub valid-same : (a n from : ℕ) → n ≢ 0 → from ≡ a → (r : Reading) → r ≡ rd a → call m (valid a n from) s ≡ (s, validAnswer n r r)
-  valid-same a n from z e r er = valid-reads a n from z r r er (er ∙ ap rd (sym e))
+  pub valid-zero : (i && k) ≡ false → (x : Answer) → x ≡ apartAnswer r q → x ≡ validAnswer n r q
+  unfolding validAnswer apartAnswer
+  valid-zero h x y = rw (← ei, ← ek, h) y
 
-  pub initialised-none : (a n : ℕ) → n ≡ 0 → call m (initialised a n) s ≡ (s, refusal 3)
-  unfolding shadowStep
-  initialised-none a n z = call-step m (initialised a n) s ok fit ∙ rw (eq-eqb n 0 z)
+pub initialised-in : (n : ℕ) (r : Reading) (t k : Bool) → inOne n r ≡ true → k ≡ t → (x : Answer) → x ≡ yesNo k → x ≡ initialisedAnswer n r t
+unfolding initialisedAnswer
+initialised-in n nothing t k i e x y = absurd (false≢true i)
+initialised-in n damaged t k i e x y = absurd (false≢true i)
+initialised-in n (block b l o w) t k i e x y = rw (i, ← e) y
 
-  module _ (a n : ℕ) (z : n ≢ 0) (d : Bool) (ed : d ≡ isDamaged (rd a)) where
-    pub initialised-damaged : d ≡ true → call m (initialised a n) s ≡ (s, refusal 8)
-    unfolding shadowStep
-    initialised-damaged t = call-step m (initialised a n) s ok fit ∙ rw (ne-eqb n 0 z, ← ed, t)
+pub initialised-out : (n : ℕ) (r : Reading) (t : Bool) → inOne n r ≡ false → (x : Answer) → x ≡ apartAnswer r nothing → x ≡ initialisedAnswer n r t
+unfolding initialisedAnswer apartAnswer
+initialised-out n nothing t i x y = y
+initialised-out n damaged t i x y = y
+initialised-out n (block b l o w) t i x y = rw i y
 
-    module _ (t : d ≡ false) (i : Bool) (ei : i ≡ inOne n (rd a)) where
-      pub initialised-out : i ≡ false → call m (initialised a n) s ≡ (s, yesNo false)
-      unfolding shadowStep
-      initialised-out u = call-step m (initialised a n) s ok fit ∙ rw (ne-eqb n 0 z, ← ed, t, ← ei, u)
+-- ---- readings told by addresses
 
-      pub initialised-in : i ≡ true → (k : Bool) → k ≡ rangeMarked (shadowOps m) s a n → call m (initialised a n) s ≡ (s, yesNo k)
-      unfolding shadowStep
-      initialised-in u k ek = call-step m (initialised a n) s ok fit ∙ rw (ne-eqb n 0 z, ← ed, t, ← ei, u, ← ek)
+pub up-damaged : (a : ℕ) (r : Reading) → isDamaged (readingUp a r) ≡ isDamaged r
+up-damaged a nothing = refl
+up-damaged a (block b l o w) = refl
+up-damaged a damaged = refl
+
+pub up-one : (n a : ℕ) (r : Reading) → inOne n (readingUp a r) ≡ inOne n r
+up-one n a nothing = refl
+up-one n a (block b l o w) = refl
+up-one n a damaged = refl
+
+up-same : (a : ℕ) (r q : Reading) → sameBlock (readingUp a r) (readingUp a q) ≡ sameBlock r q
+up-same a nothing q = refl
+up-same a damaged q = refl
+up-same a (block b l o w) nothing = refl
+up-same a (block b l o w) damaged = refl
+up-same a (block b l o w) (block c k i v) = rw (eqb-same (a + b) (a + c) b c (λ e. omega arith) (λ e. omega arith))
+
+-- in one area
+pub valid-up : (n a : ℕ) (r q : Reading) → validAnswer n (readingUp a r) (readingUp a q) ≡ validAnswer n r q
+unfolding validAnswer
+valid-up n a r q = rw (up-damaged a r, up-damaged a q, up-one n a r, up-same a r q)
+
+-- in no common area: R and Q are r and q, told by addresses
+pub valid-apart : (n : ℕ) (r q R Q : Reading) → isDamaged R ≡ isDamaged r → isDamaged Q ≡ isDamaged q → sameBlock R Q ≡ false
+    → (x : Answer) → x ≡ apartAnswer r q → x ≡ validAnswer n R Q
+unfolding validAnswer apartAnswer
+valid-apart n r q R Q er eq e x y = y ∙ go (test (inOne n R))
+  where
+    go : Test (inOne n R) → apartAnswer r q ≡ validAnswer n R Q
+    go (is-true i) = rw (er, eq, i, e)
+    go (is-false i) = rw (er, eq, i)

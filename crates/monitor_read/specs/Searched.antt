@@ -1,27 +1,31 @@
--- What a search comes to, and where it goes on above an address that lies outside the areas. Assumes nothing.
-use mathlib.Core.Bool.{cond}
-use Prim.Native.Nat.{ℕ, min}
-use lib.Dec.{leb}
-use Rattle.map.specs.declared.Map.{Map}
+-- What the search of one area comes to. Assumes nothing.
+use mathlib.Core.Bool.{Bool, true, false}
+use Prim.Native.Nat.{ℕ, _+_, _<_}
 use Rattle.plain.specs.Call as plain
 use Rattle.plain.specs.Call.{answer, refusal}
 use Rattle.plain.specs.Reading.{Reading, nothing, block, damaged}
 use Rattle.monitor_read.specs.declared.searching.Search.{Search}
 use Rattle.monitor_read.specs.declared.searching.Search.the-variants.{Found, None, Damaged}
 
--- the start of the next area above an address, or the address itself where no area begins above it
-unfoldable pub startAbove : Map → (a : ℕ) → ℕ
-startAbove m a =
-    cond (leb (m .«stack_start») a) (cond (leb (m .«heap_start») a) a (m .«heap_start»))
-    (cond (leb (m .«heap_start») a) (m .«stack_start») (min (m .«heap_start») (m .«stack_start»)))
+-- what the definition's climb over positions ends with, as the code tells it
+abbrev pub searchOf : Reading → Search
+searchOf nothing = None
+searchOf (block base length offset written) = Found (record { 0 = base }) length
+searchOf damaged = Damaged
 
-abbrev pub searchAnswer : Search → plain.Answer
-searchAnswer (Found base length) = answer 0 (base .0) length 0 0
-searchAnswer None = refusal 7
-searchAnswer Damaged = refusal 8
+-- the answer, where the area begins at start
+abbrev pub searchAnswer : (start : ℕ) → Search → plain.Answer
+searchAnswer start (Found base length) = answer 0 (start + base .0) length 0 0
+searchAnswer start None = refusal 7
+searchAnswer start Damaged = refusal 8
 
--- what the definition's climb ends with
-abbrev pub climbAnswer : Reading → plain.Answer
-climbAnswer (block base length offset written) = answer 0 base length 0 0
-climbAnswer nothing = refusal 7
-climbAnswer damaged = refusal 8
+-- a block that is found begins below this position
+abbrev pub foundBelow : Search → ℕ → Type 0
+foundBelow (Found base length) n = base .0 < n
+foundBelow None n = Unit {0}
+foundBelow Damaged n = Unit {0}
+
+abbrev pub isNone : Search → Bool
+isNone (Found base length) = false
+isNone None = true
+isNone Damaged = false

@@ -1,50 +1,47 @@
 // What readings say of bytes.
 ghost use mathlib.Core.Path.{_≡_};
+ghost use Rattle.plain.specs.Answers.{readingOf};
 ghost use Rattle.plain.specs.Call as plain;
 ghost use Rattle.plain.specs.ShadowCalls.{isDamaged, inOne, sameBlock};
-ghost use Rattle.monitor_base.specs.Answers.{answerOf, foundReading};
-ghost use Rattle.monitor_read.specs.Asked.{validAnswer};
+ghost use Rattle.monitor_base.specs.Answers.{answerOf};
+ghost use Rattle.monitor_read.specs.Asked.{validAnswer, apartAnswer};
 use monitor_base::Answer;
-use monitor_base::Found;
 use monitor_base::guard;
+use plain::Reading;
 
-pub fn damaged(f: Found) -> bool
-    ensures { λ r. ⌜ r ≡ isDamaged (foundReading f) ⌝ }
+fn damaged(r: Reading) -> bool
+    ensures { λ t. ⌜ t ≡ isDamaged (readingOf r) ⌝ }
 {
-    match f {
-        Found::Damaged => true,
-        Found::Outside => false,
-        Found::Nothing => false,
-        Found::Block(_, _, _, _) => false,
+    match r {
+        Reading::Damaged => true,
+        Reading::Nothing => false,
+        Reading::Block(_, _, _, _) => false,
     }
 }
 
 // Whether n bytes lie in one block, by the reading of the first. The sum is taken in 64 bits, where it cannot wrap.
-pub fn in_one(f: Found, n: u32) -> bool
-    ensures { λ r. ⌜ r ≡ inOne n (foundReading f) ⌝ }
+pub fn in_one(r: Reading, n: u32) -> bool
+    ensures { λ t. ⌜ t ≡ inOne n (readingOf r) ⌝ }
 {
-    match f {
-        Found::Damaged => false,
-        Found::Outside => false,
-        Found::Nothing => false,
-        Found::Block(_, length, offset, _) => offset as u64 + n as u64 <= length as u64,
+    match r {
+        Reading::Damaged => false,
+        Reading::Nothing => false,
+        Reading::Block(_, length, offset, _) => offset as u64 + n as u64 <= length as u64,
     }
 }
 
-// Whether two readings give the same block.
-fn same_block(f: Found, g: Found) -> bool
-    ensures { λ r. ⌜ r ≡ sameBlock (foundReading f) (foundReading g) ⌝ }
+// Whether two readings in one area give the same block.
+fn same_block(r: Reading, q: Reading) -> bool
+    ensures { λ t. ⌜ t ≡ sameBlock (readingOf r) (readingOf q) ⌝ }
 {
-    match f {
-        Found::Damaged => false,
-        Found::Outside => false,
-        Found::Nothing => false,
-        Found::Block(base, length, _, _) => {
-            match g {
-                Found::Damaged => false,
-                Found::Outside => false,
-                Found::Nothing => false,
-                Found::Block(other, len, _, _) => (base.0 == other.0) & (length == len),
+    match r {
+        Reading::Damaged => false,
+        Reading::Nothing => false,
+        Reading::Block(base, length, _, _) => {
+            match q {
+                Reading::Damaged => false,
+                Reading::Nothing => false,
+                Reading::Block(other, len, _, _) => (base.0 == other.0) & (length == len),
             }
         }
     }
@@ -63,12 +60,22 @@ pub fn yes_no(t: bool) -> Answer
     }
 }
 
-// What valid answers to the reading of the first of n bytes and that of the byte they belong to.
-pub fn judged(first: Found, n: u32, other: Found) -> Answer
-    ensures { λ r. ⌜ answerOf r ≡ validAnswer n (foundReading first) (foundReading other) ⌝ }
+// What is answered where no block holds the bytes that are asked for: 0, unless a reading is damaged.
+pub fn apart(first: Reading, other: Reading) -> Answer
+    ensures { λ r. ⌜ answerOf r ≡ apartAnswer (readingOf first) (readingOf other) ⌝ }
 {
     if damaged(first) | damaged(other) {
         return guard::refusal(8);
     }
-    yes_no(in_one(first, n) & same_block(first, other))
+    yes_no(false)
+}
+
+// What valid answers to the reading of the first of n bytes and that of the byte they belong to, both in one area.
+pub fn judged(first: Reading, n: u32, other: Reading) -> Answer
+    ensures { λ r. ⌜ answerOf r ≡ validAnswer n (readingOf first) (readingOf other) ⌝ }
+{
+    if in_one(first, n) & same_block(first, other) {
+        return yes_no(true);
+    }
+    apart(first, other)
 }

@@ -2,10 +2,12 @@
 mod asking;
 mod auditing;
 mod judging;
+mod ranging;
 mod searching;
+mod validating;
 
 pub use asking::ask;
-pub use asking::initialised;
-pub use asking::valid;
 pub use auditing::audit;
+pub use ranging::initialised;
 pub use searching::next;
+pub use validating::valid;

@@ -1,81 +1,116 @@
-// The search for the next block.
+// The search for the next block: one area after the other, the lower first.
 ghost use mathlib.Core.Path.{_≡_};
-ghost use mathlib.Core.Bool.{Bool, true};
-ghost use Rattle.map.specs.Map.{goodMap};
-ghost use Rattle.plain.specs.Areas.{mapRules};
+ghost use mathlib.Core.Bool.{Bool};
+ghost use Prim.Native.Nat.{_-_, _%_, _≤_};
+ghost use lib.ListN.{length};
+ghost use Rattle.number.specs.Parts.{at};
 ghost use Rattle.plain.specs.Call as plain;
-ghost use Rattle.plain.specs.ShadowCalls.{search};
-ghost use Rattle.shadows.specs.Shadows.{lengthsFit, shadowOps};
+ghost use Rattle.plain.specs.ShadowCalls.{climb};
+ghost use Rattle.heap_layout.specs.Reading.{heapReading};
+ghost use Rattle.stack_layout.specs.Reading.{stackReading};
 ghost use Rattle.monitor_base.specs.Answers.{answerOf, outcome};
-ghost use Rattle.monitor_read.specs.Searched.{startAbove, searchAnswer, climbAnswer};
 ghost use Rattle.monitor_base.specs.Calls.{call};
+ghost use Rattle.monitor_read.specs.Searched.{searchOf, searchAnswer, foundBelow, isNone};
 use map::Address;
 use map::Map;
+use map::Position;
 use monitor_base::Answer;
-use monitor_base::Found;
-use monitor_base::finding;
 use monitor_base::guard;
+use plain::Reading;
 
-// What a search comes to: base and length, no block, or a damaged reading before one.
+// What the search of an area comes to: base and length, no block, or a damaged reading before one.
 pub enum Search {
-    Found(Address, u32),
+    Found(Position, u32),
     None,
     Damaged,
 }
 
-// The start of the next area above an address, or the address itself where no area begins above it.
-fn above(map: Map, a: Address) -> Address
-    ensures { λ r. ⌜ r .0 ≡ startAbove map (a .0) ⌝ }
+// Where a search from an address on begins in the area that starts there.
+fn begin(a: Address, start: Address) -> Position
+    ensures { λ p. ⌜ p .0 ≡ a .0 - start .0 ⌝ }
 {
-    let h = map.heap_start;
-    let s = map.stack_start;
-    if s <= a.0 {
-        if h <= a.0 { a } else { Address(h) }
-    } else if h <= a.0 {
-        Address(s)
-    } else if h < s {
-        Address(h)
-    } else {
-        Address(s)
+    if a.0 < start.0 {
+        return Position(0);
     }
+    map::to_position(a, start)
 }
 
-// Climbs address by address. Outside the areas each reading is no block: there it goes on where the next area starts.
-fn climb(map: Map, heap: &[u8], primary: &[u8], secondary: &[u8], a: Address) -> Search
-    requires { ⌜ (goodMap map ≡ true) × (lengthsFit map (now heap, (now primary, now secondary)) ≡ true) ⌝ }
-    ensures { λ r. ⌜ searchAnswer r
-        ≡ climbAnswer (search (mapRules map) (shadowOps map) (now (heap .entry), (now (primary .entry), now (secondary .entry))) (a .0)) ⌝ }
+// Climbs the heap. Inside a segment no block begins, and its readings are all damaged or none is: after the first the climb goes on above it.
+fn climb_heap(heap: &[u8], p: Position) -> Search
+    requires { ⌜ (length (now heap) % 8 ≡ 0) × (length (now heap) ≤ 131072) ⌝ }
+    ensures { λ r. ⌜ r ≡ searchOf (climb (heapReading 4 8 (length (now (heap .entry))) (at (now (heap .entry)))) (p .0) (length (now (heap .entry)) - p .0)) ⌝ }
 {
-    let mut at = a;
+    let mut at = p.0;
     let found = loop {
-        match finding::find(map, heap, primary, secondary, at) {
-            Found::Outside => {
-                let up = above(map, at);
-                if up.0 == at.0 {
-                    break Search::None;
-                }
-                at = up;
-            }
-            Found::Damaged => {
+        if heap.len() <= at {
+            break Search::None;
+        }
+        let on = at / 8 * 8 + 8;
+        match heap::read(heap, Position(at)) {
+            Reading::Damaged => {
                 break Search::Damaged;
             }
-            Found::Nothing => {
-                at = Address(at.0 + 1);
+            Reading::Nothing => {
+                at = on;
             }
-            Found::Block(base, length, offset, _) => {
+            Reading::Block(base, length, offset, _) => {
                 if offset == 0 {
                     break Search::Found(base, length);
                 }
-                at = Address(at.0 + 1);
+                at = on;
             }
         }
     };
     found
 }
 
-// The answer to what a search came to.
-fn answered(s: Search) -> Answer
-    ensures { λ r. ⌜ answerOf r ≡ searchAnswer s ⌝ }
+// Climbs the stack. A primary byte of 0 is no block; any other is read.
+fn climb_stack(primary: &[u8], secondary: &[u8], p: Position) -> Search
+    requires { ⌜ (length (now primary) ≡ length (now secondary)) × (length (now primary) ≤ 65536) ⌝ }
+    ensures { λ r. ⌜ r ≡ searchOf (climb (stackReading (length (now (primary .entry))) (at (now (primary .entry))) (at (now (secondary .entry)))) (p .0)
+        (length (now (primary .entry)) - p .0)) ⌝ }
+{
+    let mut at = p.0;
+    let found = loop {
+        if primary.len() <= at {
+            break Search::None;
+        }
+        if primary[at] == 0 {
+            at += 1;
+        } else {
+            match stack::read(primary, secondary, Position(at)) {
+                Reading::Damaged => {
+                    break Search::Damaged;
+                }
+                Reading::Nothing => {
+                    at += 1;
+                }
+                Reading::Block(base, length, offset, _) => {
+                    if offset == 0 {
+                        break Search::Found(base, length);
+                    }
+                    at += 1;
+                }
+            }
+        }
+    };
+    found
+}
+
+fn none(s: Search) -> bool
+    ensures { λ t. ⌜ t ≡ isNone s ⌝ }
+{
+    match s {
+        Search::None => true,
+        Search::Damaged => false,
+        Search::Found(_, _) => false,
+    }
+}
+
+// The answer to what the search of the area that begins at start came to.
+fn answered(s: Search, start: Address) -> Answer
+    requires { ⌜ foundBelow s (4294967296 - start .0) ⌝ }
+    ensures { λ r. ⌜ answerOf r ≡ searchAnswer (start .0) s ⌝ }
 {
     match s {
         Search::None => guard::refusal(7),
@@ -83,7 +118,7 @@ fn answered(s: Search) -> Answer
         Search::Found(base, length) => {
             Answer {
                 number: 0,
-                first: base.0,
+                first: map::to_address(base, start).0,
                 second: length,
                 third: 0,
                 fourth: 0,
@@ -101,5 +136,18 @@ pub fn next(map: Map, heap: &[u8], primary: &[u8], secondary: &[u8], a: Address)
     if k != 0 {
         return guard::refusal(k);
     }
-    answered(climb(map, heap, primary, secondary, a))
+    let h = Address(map.heap_start);
+    let s = Address(map.stack_start);
+    if h.0 < s.0 {
+        let low = climb_heap(heap, begin(a, h));
+        if none(low) {
+            return answered(climb_stack(primary, secondary, begin(a, s)), s);
+        }
+        return answered(low, h);
+    }
+    let low = climb_stack(primary, secondary, begin(a, s));
+    if none(low) {
+        return answered(climb_heap(heap, begin(a, h)), h);
+    }
+    answered(low, s)
 }

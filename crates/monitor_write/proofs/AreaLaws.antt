@@ -28,7 +28,7 @@ use Rattle.stack_layout.proofs.ReadingLaws as stack
 use Rattle.shadows.specs.Shadows.{Shadows, lengthsFit, shadowOps}
 use Rattle.shadows.proofs.ShadowLaws.{Fit, fit-true}
 use Rattle.monitor_write.specs.AreaCalls.{freeRefusal}
-use Rattle.monitor_base.proofs.FindingLaws.{area-heap, area-stack, area-out, heap-lengths, stack-lengths, heap-position, stack-position}
+use Rattle.monitor_base.proofs.LocatingLaws.{area-heap, area-stack, area-out, heap-room, stack-room}
 use Rattle.monitor_write.proofs.AtLaws.{fits-same, aligned-same, range-at, At}
 
 -- ---- a position of an area is read as its layout reads it
@@ -46,7 +46,7 @@ stack-reads s p k = let w = true-within 0 (length (s .0)) p (omega arith) (omega
 
 -- ---- a block that is read lies in its area
 
--- the block that a free is asked for, and the one that holds n bytes
+-- the block that a free is asked for
 first : (r : Reading) (P : ℕ → Type 0) → ((b l w : ℕ) → r ≡ block b l 0 w → P l) → freeRefusal r ≡ 0 → P (lengthOf r)
 first nothing P f e = absurd (omega arith)
 first damaged P f e = absurd (omega arith)
@@ -55,11 +55,6 @@ first (block b l o w) P f e = go (test (eqb o 0))
     go : Test (eqb o 0) → P l
     go (is-true t) = f b l w (rw (eqb-true o 0 t))
     go (is-false t) = absurd (omega (arith, rw t at e))
-
-in-one : (n : ℕ) (r : Reading) (P : Type 0) → ((b l o w : ℕ) → r ≡ block b l o w → o + n ≤ l → P) → inOne n r ≡ true → P
-in-one n nothing P f i = absurd (false≢true i)
-in-one n damaged P f i = absurd (false≢true i)
-in-one n (block b l o w) P f i = f b l o w refl (leb-true (o + n) l i)
 
 module _ (size : ℕ) (f : ℕ → ℕ) (p : ℕ) where
   pub heap-first : (l : ℕ) → l ≡ lengthOf (heapReading 4 8 size f p) → freeRefusal (heapReading 4 8 size f p) ≡ 0
@@ -73,20 +68,12 @@ module _ (size : ℕ) (f : ℕ → ℕ) (p : ℕ) where
       (omega arith, rw q (t .aligned), omega arith, t .some))
       e)
 
-  pub heap-room : (n : ℕ) → inOne n (heapReading 4 8 size f p) ≡ true → p + n ≤ size
-  heap-room n =
-      in-one n (heapReading 4 8 size f p) (p + n ≤ size) (λ b l o w e h. let t = heap.reading-told 4 8 size f p b l o w e in omega arith)
-
 module _ (size : ℕ) (f g : ℕ → ℕ) (p : ℕ) where
   pub stack-first : (l : ℕ) → l ≡ lengthOf (stackReading size f g p) → freeRefusal (stackReading size f g p) ≡ 0 → p + l ≤ size
   stack-first l q e =
       rw q
       (first (stackReading size f g p) (λ l. p + l ≤ size)
       (λ b l w h. let t = stack.reading-told size f g p b l 0 w h in omega arith) e)
-
-  pub stack-room : (n : ℕ) → inOne n (stackReading size f g p) ≡ true → p + n ≤ size
-  stack-room n =
-      in-one n (stackReading size f g p) (p + n ≤ size) (λ b l o w e h. let t = stack.reading-told size f g p b l o w e in omega arith)
 
 -- ---- an address of neither area
 
@@ -116,16 +103,6 @@ module _ (m : Map) (s : Shadows) (ok : goodMap m ≡ true) (fit : lengthsFit m s
 
   lengths : Fit m s
   lengths = fit-true m s fit
-
-  pub heap-there : areaOf m a ≡ Heap → p ≡ a - hs → (p < length (s .0)) × (length (s .0) % 8 ≡ 0) × (length (s .0) ≤ 131072)
-  heap-there e q =
-      let l = heap-lengths m s ok fit in
-      (rw q (heap-position m s ok fit a e .1), l .1, l .2)
-
-  pub stack-there : areaOf m a ≡ Stack → p ≡ a - ss → (p < length (s .1 .0)) × (length (s .1 .0) ≡ length (s .1 .1)) × (length (s .1 .0) ≤ 65536)
-  stack-there e q =
-      let l = stack-lengths m s ok fit in
-      (rw q (stack-position m s ok fit a e .1), l .0 ∙ sym (l .1), l .2)
 
   abbrev H : Rules
   H = heapRules 8 hs hz

@@ -1,20 +1,14 @@
--- One call on the shadows of one area, by positions; what a reading decides; where an address lies. Assumes nothing.
-use mathlib.Core.Path.{_≡_}
+-- One call on the shadows of one area, by positions; what a reading decides. Assumes nothing.
 use mathlib.Core.Bool.{not}
 use mathlib.Core.List.{List, [], _∷_}
-use Prim.Native.Nat.{ℕ, _-_}
+use Prim.Native.Nat.{ℕ}
 use lib.ListN.{length}
-use Rattle.map.specs.declared.Map.{Map}
-use Rattle.map.specs.declared.Area.the-variants as area
-use Rattle.map.specs.Map.{areaOf}
 use Rattle.plain.specs.Areas.{heapRules, stackRules}
 use Rattle.plain.specs.Reading.{Reading}
 use Rattle.plain.specs.Call.{Call, Answer, firstOf}
 use Rattle.plain.specs.ShadowCalls.{isDamaged, isFirst, inOne, shadowStep}
 use Rattle.heap_layout.specs.Ops.{heapOps}
 use Rattle.stack_layout.specs.Ops.{StackShadows, stackOps}
-use Rattle.monitor_write.specs.declared.Located.{Located}
-use Rattle.monitor_write.specs.declared.Located.the-variants.{Heap, Stack, Outside}
 
 -- the numbers that a reading decides: of the base that is to be freed, of the first of n bytes that are to be written
 abbrev pub freeRefusal : Reading → ℕ
@@ -28,9 +22,3 @@ onHeap c h = shadowStep (heapRules 8 0 (length h)) (heapOps 4 8 (length h)) c h
 
 abbrev pub onStack : Call → StackShadows → StackShadows × Answer
 onStack c s = shadowStep (stackRules 0 (length (s .0))) (stackOps (length (s .0))) c s
-
--- the address lies there
-abbrev pub Lies : Map → ℕ → Located → Type 0
-Lies m a (Heap p) = (areaOf m a ≡ area.Heap) × (p .0 ≡ a - m .«heap_start»)
-Lies m a (Stack p) = (areaOf m a ≡ area.Stack) × (p .0 ≡ a - m .«stack_start»)
-Lies m a Outside = areaOf m a ≡ area.Outside

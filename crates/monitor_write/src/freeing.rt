@@ -10,13 +10,13 @@ ghost use Rattle.stack_layout.specs.Ops.{StackShadows};
 ghost use Rattle.monitor_base.specs.Answers.{outcome};
 ghost use Rattle.monitor_write.specs.AreaCalls.{freeRefusal, onHeap, onStack};
 ghost use Rattle.monitor_base.specs.Calls.{call};
-use crate::Located;
-use crate::locating::locate;
 use map::Address;
 use map::Map;
 use map::Position;
 use monitor_base::Answer;
+use monitor_base::Located;
 use monitor_base::guard;
+use monitor_base::locating::locate;
 use plain::Reading;
 
 // The number that a reading at the base gives: 0 at a block's first byte.

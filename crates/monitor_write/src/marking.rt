@@ -9,13 +9,13 @@ ghost use Rattle.stack_layout.specs.Ops.{StackShadows};
 ghost use Rattle.monitor_base.specs.Answers.{outcome};
 ghost use Rattle.monitor_write.specs.AreaCalls.{writtenRefusal, onHeap, onStack};
 ghost use Rattle.monitor_base.specs.Calls.{call};
-use crate::Located;
-use crate::locating::locate;
 use map::Address;
 use map::Map;
 use map::Position;
 use monitor_base::Answer;
+use monitor_base::Located;
 use monitor_base::guard;
+use monitor_base::locating::locate;
 use plain::Reading;
 
 // The number that a reading of the first of n bytes gives: 0 where they lie in one block. The sum is taken in 64 bits, where it cannot wrap.

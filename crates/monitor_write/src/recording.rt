@@ -8,13 +8,13 @@ ghost use Rattle.stack_layout.specs.Ops.{StackShadows};
 ghost use Rattle.monitor_base.specs.Answers.{outcome};
 ghost use Rattle.monitor_write.specs.AreaCalls.{onHeap, onStack};
 ghost use Rattle.monitor_base.specs.Calls.{call};
-use crate::Located;
-use crate::locating::locate;
 use map::Address;
 use map::Map;
 use map::Position;
 use monitor_base::Answer;
+use monitor_base::Located;
 use monitor_base::guard;
+use monitor_base::locating::locate;
 
 // In the heap, whose first segment holds no block. The number.
 fn on_heap(heap: &mut [u8], base: Position, len: u32) -> u32

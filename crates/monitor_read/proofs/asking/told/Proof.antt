@@ -1,7 +1,6 @@
 -- `monitor_read::asking::told` meets its contract. Assumes nothing.
-use mathlib.Core.Path.{sym, ap, _∙_}
+use native.Mathlib.Omega.{arith}
 use borrow.Author.Needs.{needs}
-use Rattle.monitor_read.specs.Asked.{askFound}
 use Rattle.monitor_read.proofs.asking.told.Statement.{statement}
 use Rattle.monitor_read.proofs.asking.told.Tie as tie
 
@@ -17,29 +16,23 @@ enum-told-2 c = search needs
 refusal-requires-2 : tie.Need-refusal-requires-2
 refusal-requires-2 c κs = search needs
 
-enum-told-3 : tie.Need-enum-told-3
-enum-told-3 c = search needs
+enum-known-r : tie.Need-enum-known-r
+enum-known-r c = search needs
 
-refusal-requires-3 : tie.Need-refusal-requires-3
-refusal-requires-3 c κs = search needs
+to-address-requires : tie.Need-to-address-requires
+to-address-requires c κs = omega (arith, rw (c .before .r .given .1) at (c .before .before .before .pre))
 
-enum-known-f : tie.Need-enum-known-f
-enum-known-f c = search needs
-
-cast-t7 : tie.Need-cast-t7
-cast-t7 c = search needs
+cast-t9 : tie.Need-cast-t9
+cast-t9 c = search needs
 
 returns : tie.Need-returns
-returns c = c .refusal .ensures ∙ ap askFound (sym (c .before .enum-told .given .1))
+returns c = rw (c .before .enum-told .given .1) (c .refusal .ensures)
 
 returns-2 : tie.Need-returns-2
-returns-2 c = c .refusal2 .ensures ∙ ap askFound (sym (c .before .enum-told2 .given .1))
+returns-2 c = rw (c .before .enum-told2 .given .1) (c .refusal2 .ensures)
 
 returns-3 : tie.Need-returns-3
-returns-3 c = c .refusal3 .ensures ∙ ap askFound (sym (c .before .enum-told3 .given .1))
-
-returns-4 : tie.Need-returns-4
-returns-4 c = ap askFound (sym (c .before .f .given .1))
+returns-3 c = rw (c .before .before .r .given .1, c .to-address .ensures)
 
 pub told-spec : {M : Type 1} → statement M
 told-spec =
@@ -49,11 +42,9 @@ told-spec =
     refusal-requires
     enum-told-2
     refusal-requires-2
-    enum-told-3
-    refusal-requires-3
-    enum-known-f
-    cast-t7
+    enum-known-r
+    to-address-requires
+    cast-t9
     returns
     returns-2
-    returns-3
-    returns-4)
+    returns-3)

@@ -8,7 +8,7 @@ use Rattle.plain.specs.Call.{audit}
 use Rattle.shadows.specs.Shadows.{Shadows, lengthsFit}
 use Rattle.monitor_read.specs.Audited.{auditsAnswer}
 use Rattle.monitor_base.proofs.CallLaws.{early-good}
-use Rattle.monitor_base.proofs.FindingLaws.{heap-lengths, stack-lengths}
+use Rattle.monitor_base.proofs.LocatingLaws.{heap-lengths, stack-lengths}
 use Rattle.monitor_read.proofs.AnswerLaws.{answers, refuses}
 use Rattle.monitor_read.proofs.AuditingLaws.{sums-fit, audits}
 use Rattle.monitor_read.proofs.auditing.audit.Statement.{statement}

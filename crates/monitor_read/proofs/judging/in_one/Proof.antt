@@ -9,11 +9,8 @@ enum-told c = search needs
 enum-told-2 : tie.Need-enum-told-2
 enum-told-2 c = search needs
 
-enum-told-3 : tie.Need-enum-told-3
-enum-told-3 c = search needs
-
-enum-known-f : tie.Need-enum-known-f
-enum-known-f c = search needs
+enum-known-r : tie.Need-enum-known-r
+enum-known-r c = search needs
 
 cast-result : tie.Need-cast-result
 cast-result c = search needs
@@ -31,10 +28,7 @@ returns-2 : tie.Need-returns-2
 returns-2 c = search needs
 
 returns-3 : tie.Need-returns-3
-returns-3 c = search needs
-
-returns-4 : tie.Need-returns-4
-returns-4 c = rw (c .before .f .given .1)
+returns-3 c = rw (c .before .r .given .1)
 
 pub in-one-spec : {M : Type 1} → statement M
 in-one-spec =
@@ -42,12 +36,10 @@ in-one-spec =
     (tie.spec
     enum-told
     enum-told-2
-    enum-told-3
-    enum-known-f
+    enum-known-r
     cast-result
     add-result
     cast-result-2
     returns
     returns-2
-    returns-3
-    returns-4)
+    returns-3)

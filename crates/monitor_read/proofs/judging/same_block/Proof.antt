@@ -9,23 +9,17 @@ enum-told c = search needs
 enum-told-2 : tie.Need-enum-told-2
 enum-told-2 c = search needs
 
+enum-known-r : tie.Need-enum-known-r
+enum-known-r c = search needs
+
 enum-told-3 : tie.Need-enum-told-3
 enum-told-3 c = search needs
-
-enum-known-f : tie.Need-enum-known-f
-enum-known-f c = search needs
 
 enum-told-4 : tie.Need-enum-told-4
 enum-told-4 c = search needs
 
-enum-told-5 : tie.Need-enum-told-5
-enum-told-5 c = search needs
-
-enum-told-6 : tie.Need-enum-told-6
-enum-told-6 c = search needs
-
-enum-known-g : tie.Need-enum-known-g
-enum-known-g c = search needs
+enum-known-q : tie.Need-enum-known-q
+enum-known-q c = search needs
 
 returns : tie.Need-returns
 returns c = search needs
@@ -34,19 +28,13 @@ returns-2 : tie.Need-returns-2
 returns-2 c = search needs
 
 returns-3 : tie.Need-returns-3
-returns-3 c = search needs
+returns-3 c = rw (c .before .before .before .r .given .1, c .enum-told3 .given .1)
 
 returns-4 : tie.Need-returns-4
-returns-4 c = rw (c .before .before .before .f .given .1, c .enum-told4 .given .1)
+returns-4 c = rw (c .before .before .before .r .given .1, c .enum-told4 .given .1)
 
 returns-5 : tie.Need-returns-5
-returns-5 c = rw (c .before .before .before .f .given .1, c .enum-told5 .given .1)
-
-returns-6 : tie.Need-returns-6
-returns-6 c = rw (c .before .before .before .f .given .1, c .enum-told6 .given .1)
-
-returns-7 : tie.Need-returns-7
-returns-7 c = rw (c .before .before .before .before .before .before .f .given .1, c .before .before .before .g .given .1)
+returns-5 c = rw (c .before .before .before .before .before .before .r .given .1, c .before .before .before .q .given .1)
 
 pub same-block-spec : {M : Type 1} → statement M
 same-block-spec =
@@ -54,16 +42,12 @@ same-block-spec =
     (tie.spec
     enum-told
     enum-told-2
+    enum-known-r
     enum-told-3
-    enum-known-f
     enum-told-4
-    enum-told-5
-    enum-told-6
-    enum-known-g
+    enum-known-q
     returns
     returns-2
     returns-3
     returns-4
-    returns-5
-    returns-6
-    returns-7)
+    returns-5)

@@ -1,4 +1,5 @@
 -- `monitor_read::searching::answered` meets its contract. Assumes nothing.
+use native.Mathlib.Omega.{arith}
 use borrow.Author.Needs.{needs}
 use Rattle.monitor_read.proofs.searching.answered.Statement.{statement}
 use Rattle.monitor_read.proofs.searching.answered.Tie as tie
@@ -18,6 +19,9 @@ refusal-requires-2 c κs = search needs
 enum-known-s : tie.Need-enum-known-s
 enum-known-s c = search needs
 
+to-address-requires : tie.Need-to-address-requires
+to-address-requires c κs = omega (arith, rw (c .before .s .given .1) at (c .before .before .before .pre))
+
 returns : tie.Need-returns
 returns c = rw (c .before .enum-told .given .1) (c .refusal .ensures)
 
@@ -25,7 +29,7 @@ returns-2 : tie.Need-returns-2
 returns-2 c = rw (c .before .enum-told2 .given .1) (c .refusal2 .ensures)
 
 returns-3 : tie.Need-returns-3
-returns-3 c = rw (c .before .s .given .1)
+returns-3 c = rw (c .before .before .s .given .1, c .to-address .ensures)
 
 pub answered-spec : {M : Type 1} → statement M
 answered-spec =
@@ -36,6 +40,7 @@ answered-spec =
     enum-told-2
     refusal-requires-2
     enum-known-s
+    to-address-requires
     returns
     returns-2
     returns-3)

@@ -10,7 +10,8 @@ use Rattle.heap_layout.specs.Reading.{heapReading}
 use Rattle.monitor_write.specs.AreaCalls.{writtenRefusal}
 use Rattle.monitor_write.proofs.StepLaws.{written-refused, written-done}
 use Rattle.monitor_write.proofs.AtLaws.{written-passed}
-use Rattle.monitor_write.proofs.AreaLaws.{heap-reads, heap-room}
+use Rattle.monitor_base.proofs.LocatingLaws.{heap-room}
+use Rattle.monitor_write.proofs.AreaLaws.{heap-reads}
 use mathlib.Core.List.{List}
 use borrow.Author.Needs.{needs}
 use Rattle.monitor_write.proofs.marking.on_heap.Statement.{statement}

@@ -10,7 +10,8 @@ use Rattle.stack_layout.specs.Ops.{StackShadows}
 use Rattle.monitor_write.specs.AreaCalls.{writtenRefusal}
 use Rattle.monitor_write.proofs.StepLaws.{written-refused, written-done}
 use Rattle.monitor_write.proofs.AtLaws.{written-passed}
-use Rattle.monitor_write.proofs.AreaLaws.{stack-reads, stack-room}
+use Rattle.monitor_base.proofs.LocatingLaws.{stack-room}
+use Rattle.monitor_write.proofs.AreaLaws.{stack-reads}
 use borrow.Author.Needs.{needs}
 use Rattle.monitor_write.proofs.marking.on_stack.Statement.{statement}
 use Rattle.monitor_write.proofs.marking.on_stack.Tie as tie

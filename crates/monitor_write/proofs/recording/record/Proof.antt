@@ -7,14 +7,16 @@ use Rattle.map.specs.Map.{goodMap}
 use Rattle.plain.specs.Call.{Call, record-block, refusal}
 use Rattle.shadows.specs.Shadows.{Shadows, lengthsFit}
 use Rattle.stack_layout.specs.Ops.{StackShadows}
-use Rattle.monitor_write.specs.AreaCalls.{onHeap, onStack, Lies}
-use Rattle.monitor_write.specs.declared.Located.{Located}
-use Rattle.monitor_write.specs.declared.Located.the-variants.{Heap, Stack, Outside}
+use Rattle.monitor_base.specs.Locating.{Lies}
+use Rattle.monitor_base.specs.declared.Located.{Located}
+use Rattle.monitor_base.specs.declared.Located.the-variants.{Heap, Stack, Outside}
+use Rattle.monitor_write.specs.AreaCalls.{onHeap, onStack}
 use Rattle.monitor_base.proofs.CallLaws.{early-good}
 use Rattle.monitor_write.proofs.OutcomeLaws.{refused, stepped, stepped-heap, stepped-stack}
 use Rattle.monitor_write.proofs.StepLaws.{record-3, record-4}
 use Rattle.monitor_write.proofs.AtLaws.{record-at}
-use Rattle.monitor_write.proofs.AreaLaws.{heap-there, stack-there, heap-at, stack-at, out-fits}
+use Rattle.monitor_base.proofs.LocatingLaws.{heap-there, stack-there}
+use Rattle.monitor_write.proofs.AreaLaws.{heap-at, stack-at, out-fits}
 use borrow.Author.Needs.{needs}
 use Rattle.monitor_write.proofs.recording.record.Statement.{statement}
 use Rattle.monitor_write.proofs.recording.record.Tie as tie

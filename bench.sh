@@ -1,0 +1,33 @@
+#!/usr/bin/env bash
+# Times the linked library beside its peers and prints the tables; needs rt, cargo and a C compiler.
+#   ./bench.sh                  about two minutes
+#   ./bench.sh --quick          fewer rounds
+#   ./bench.sh --docs           also puts tables and plot into docs/
+#   ./bench.sh --before BUILD   sets an earlier build beside this one, in the same program: a commit, or the archive of one
+# E-ACSL's library and valgrind take part where they are installed.
+set -euo pipefail
+cd "$(dirname "$0")"
+out=target/bench
+mkdir -p "$out"
+
+words=()
+before=
+while [ $# -gt 0 ]; do
+  case "$1" in
+    --before) before=$2; shift ;;
+    --quick | --docs) words+=("$1") ;;
+    *) sed -n '2,7s/^# *//p' "$0"; exit 2 ;;
+  esac
+  shift
+done
+
+rt staticlib monitor_c > "$out/staticlib.log" 2>&1 || { cat "$out/staticlib.log"; exit 1; }
+bench/eacsl/build.sh "$out"
+unset BENCH_BEFORE
+if [ -n "$before" ]; then
+  bench/before.sh "$before" "$out"
+  export BENCH_BEFORE="$PWD/$out/libmonitor_before.a"
+fi
+cargo build --quiet --release --offline --manifest-path bench/Cargo.toml
+bench/versions.sh > "$out/versions"
+exec bench/target/release/bench "${words[@]}"

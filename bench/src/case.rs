@@ -1,0 +1,285 @@
+//! What is measured: the cases, each a list of calls in a state.
+
+use model::block::Block;
+use model::call::Call;
+use model::map::Map;
+use model::plain::List;
+use model::program::{decode, Record};
+use model::random::Random;
+
+use crate::lists::Calls;
+use crate::state::{filled, roomy, State};
+
+/// Addresses asked for, in no order.
+const QUERIES: usize = 1024;
+/// Places that are recorded and freed again, at most.
+const PLACES: usize = 200;
+
+/// What a case is, for the targets.
+#[derive(Clone, Copy, PartialEq, Eq)]
+pub enum Group {
+    Reading,
+    Next,
+    Marking,
+    Placing,
+    Whole,
+    Replay,
+}
+
+pub struct Case {
+    pub title: String,
+    pub group: Group,
+    /// Which state it begins in.
+    pub state: usize,
+    pub before: Vec<Call>,
+    pub timed: Vec<Call>,
+    pub after: Vec<Call>,
+    /// The timed calls in a form that is quick to walk.
+    pub calls: Calls,
+}
+
+impl Case {
+    fn new(title: impl Into<String>, group: Group, state: usize, timed: Vec<Call>) -> Self {
+        Case {
+            title: title.into(),
+            group,
+            state,
+            before: Vec::new(),
+            calls: Calls::new(&timed),
+            timed,
+            after: Vec::new(),
+        }
+    }
+
+    /// E-ACSL has no search, no audit and no clearing.
+    pub fn known_to_eacsl(&self) -> bool {
+        let unknown = |call: &Call| matches!(call, Call::Next { .. } | Call::Audit | Call::Clear);
+        !self.timed.iter().any(unknown)
+    }
+}
+
+pub struct Plan {
+    pub states: Vec<State>,
+    pub cases: Vec<Case>,
+}
+
+const FILLED: usize = 0;
+const ROOMY: usize = 1;
+
+/// All states and cases; the traces are given as their files.
+pub fn plan(traces: &[(&'static str, Vec<u8>)]) -> Plan {
+    let mut states = vec![filled(), roomy()];
+    let mut cases = readings(&states[FILLED]);
+    cases.extend(markings(&states[FILLED], &states[ROOMY]));
+    cases.extend(placings(&states[ROOMY]));
+    cases.extend(searches(&states[ROOMY]));
+    cases.extend(wholes(&states[FILLED]));
+    for (title, file) in traces {
+        let (map, calls) = read_trace(file);
+        states.push(State {
+            title,
+            map,
+            calls: Vec::new(),
+        });
+        let number = states.len() - 1;
+        cases.push(replay(&states[number], number, calls));
+    }
+    Plan { states, cases }
+}
+
+/// One call for each of many blocks picked at random: the block, and an offset with room for n bytes below a limit.
+fn queries(
+    blocks: &[Block],
+    n: u32,
+    limit: impl Fn(&Block) -> u32,
+    call: impl Fn(&Block, u32) -> Call,
+) -> Vec<Call> {
+    let mut random = Random::new(31);
+    let fit: Vec<&Block> = blocks.iter().filter(|block| limit(block) >= n).collect();
+    (0..QUERIES)
+        .map(|_| {
+            let block = random.pick(&fit);
+            let offset = random.between(0, limit(block) - n);
+            call(block, block.base + offset)
+        })
+        .collect()
+}
+
+fn whole(block: &Block) -> u32 {
+    block.length
+}
+
+fn half(block: &Block) -> u32 {
+    block.written_count()
+}
+
+fn readings(state: &State) -> Vec<Case> {
+    let heap = state.heap_blocks();
+    let (short, long): (Vec<Block>, Vec<Block>) = state
+        .stack_blocks()
+        .into_iter()
+        .partition(|block| block.length <= 8);
+    let ask = |_: &Block, address| Call::Ask { address };
+    let valid = |block: &Block, address| Call::Valid {
+        address,
+        n: 4,
+        from: block.base,
+    };
+    let mut cases = Vec::new();
+    let mut add = |title: &str, timed| cases.push(Case::new(title, Group::Reading, FILLED, timed));
+    add("ask, heap", queries(&heap, 1, whole, ask));
+    add("ask, short stack block", queries(&short, 1, whole, ask));
+    add("ask, long stack block", queries(&long, 1, whole, ask));
+    add("valid of 4, heap", queries(&heap, 4, whole, valid));
+    add(
+        "valid of 4, short stack block",
+        queries(&short, 4, whole, valid),
+    );
+    add(
+        "valid of 4, long stack block",
+        queries(&long, 4, whole, valid),
+    );
+    for n in [1, 8] {
+        let initialised = move |_: &Block, address| Call::Initialised { address, n };
+        add(
+            &format!("initialised of {n}, heap"),
+            queries(&heap, n, half, initialised),
+        );
+        add(
+            &format!("initialised of {n}, stack"),
+            queries(&long, n, half, initialised),
+        );
+    }
+    cases
+}
+
+fn markings(filled: &State, roomy: &State) -> Vec<Case> {
+    let areas = [
+        ("heap", filled.heap_blocks(), gap(&roomy.heap_blocks())),
+        ("stack", filled.stack_blocks(), gap(&roomy.stack_blocks())),
+    ];
+    let mut cases = Vec::new();
+    for n in [1, 8] {
+        for (area, blocks, _) in &areas {
+            let written = move |_: &Block, address| Call::Written { address, n };
+            let timed = queries(blocks, n, half, written);
+            let title = format!("written of {n}, {area}");
+            cases.push(Case::new(title, Group::Marking, FILLED, timed));
+        }
+    }
+    for (area, _, (start, _)) in &areas {
+        let base = start.next_multiple_of(8) + 8;
+        let length = 1024;
+        let each = (0..length).map(|i| Call::Written {
+            address: base + i,
+            n: 1,
+        });
+        let title = format!("written of 1, byte by byte, {area}");
+        let mut case = Case::new(title, Group::Marking, ROOMY, each.collect());
+        case.before = vec![Call::Record { base, length }];
+        case.after = vec![Call::Free { base }];
+        cases.push(case);
+    }
+    cases
+}
+
+/// The room between the last two blocks: from the end of one to the base of the other.
+fn gap(blocks: &[Block]) -> (u32, u32) {
+    let [.., one, other] = blocks else {
+        panic!("an area has two blocks at least");
+    };
+    (one.base + one.length, other.base)
+}
+
+/// A number below a million as documents write it.
+fn thousands(number: u32) -> String {
+    match number {
+        0..=999 => number.to_string(),
+        _ => format!("{},{:03}", number / 1000, number % 1000),
+    }
+}
+
+fn placings(state: &State) -> Vec<Case> {
+    let areas = [
+        ("heap", gap(&state.heap_blocks()), 8),
+        ("stack", gap(&state.stack_blocks()), 0),
+    ];
+    let mut cases = Vec::new();
+    for record in [true, false] {
+        for (area, (start, end), header) in areas {
+            for length in [8, 64, 1024] {
+                let first = start.next_multiple_of(8) + header;
+                let bases = (first..end - header - length).step_by((length + header) as usize);
+                let bases: Vec<u32> = bases.take(PLACES).collect();
+                let records: Vec<Call> = bases
+                    .iter()
+                    .map(|&base| Call::Record { base, length })
+                    .collect();
+                let frees: Vec<Call> = bases.iter().map(|&base| Call::Free { base }).collect();
+                cases.push(if record {
+                    let title = format!("record of {}, {area}", thousands(length));
+                    let mut case = Case::new(title, Group::Placing, ROOMY, records);
+                    case.after = frees;
+                    case
+                } else {
+                    let title = format!("free of {}, {area}", thousands(length));
+                    let mut case = Case::new(title, Group::Placing, ROOMY, frees);
+                    case.before = records;
+                    case
+                });
+            }
+        }
+    }
+    cases
+}
+
+fn searches(state: &State) -> Vec<Case> {
+    [
+        ("heap", state.heap_blocks()),
+        ("stack", state.stack_blocks()),
+    ]
+    .map(|(area, blocks)| {
+        let address = gap(&blocks).1 - 1000;
+        let title = format!("next over 1,000 free bytes, {area}");
+        Case::new(title, Group::Next, ROOMY, vec![Call::Next { address }; 16])
+    })
+    .into()
+}
+
+fn wholes(state: &State) -> Vec<Case> {
+    let audit = Case::new("audit", Group::Whole, FILLED, vec![Call::Audit]);
+    let mut clear = Case::new("clear", Group::Whole, FILLED, vec![Call::Clear]);
+    clear.after = state.calls.clone();
+    vec![audit, clear]
+}
+
+/// A trace's map and its calls, but for the audit, which no peer of E-ACSL's has.
+fn read_trace(mut file: &[u8]) -> (Map, Vec<Call>) {
+    let mut map = None;
+    let mut calls = Vec::new();
+    while let Some((record, rest)) = decode(file) {
+        match record {
+            Record::Map(found) => map = Some(found),
+            Record::Call(_, Call::Audit) => {}
+            Record::Call(_, call) => calls.push(call),
+        }
+        file = rest;
+    }
+    (map.expect("a trace begins with its map"), calls)
+}
+
+fn replay(state: &State, number: usize, calls: Vec<Call>) -> Case {
+    let mut list = state.list();
+    for &call in &calls {
+        list.step(call);
+    }
+    let left = list.listed();
+    let count = thousands(calls.len() as u32);
+    let title = format!("replay of {} ({count} calls)", state.title);
+    let mut case = Case::new(title, Group::Replay, number, calls);
+    case.after = left
+        .iter()
+        .map(|block| Call::Free { base: block.base })
+        .collect();
+    case
+}

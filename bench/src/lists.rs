@@ -1,0 +1,147 @@
+//! Lists of calls: a list of one kind has a loop of its own, so that no dispatch is timed with it.
+
+use model::call::Call;
+
+pub enum Calls {
+    Asks(Vec<u32>),
+    Valids(Vec<(u32, u32, u32)>),
+    Initialised(Vec<(u32, u32)>),
+    Written(Vec<(u32, u32)>),
+    Records(Vec<(u32, u32)>),
+    Frees(Vec<u32>),
+    Nexts(Vec<u32>),
+    Audits(usize),
+    Clears(usize),
+    Mixed(Vec<Call>),
+}
+
+impl Calls {
+    pub fn new(calls: &[Call]) -> Self {
+        let kind = std::mem::discriminant(&calls[0]);
+        if calls
+            .iter()
+            .any(|call| std::mem::discriminant(call) != kind)
+        {
+            return Calls::Mixed(calls.to_vec());
+        }
+        let all = calls.iter().copied();
+        match calls[0] {
+            Call::Ask { .. } => Calls::Asks(all.map(first).collect()),
+            Call::Valid { .. } => Calls::Valids(
+                all.map(|call| (first(call), second(call), third(call)))
+                    .collect(),
+            ),
+            Call::Initialised { .. } => Calls::Initialised(all.map(both).collect()),
+            Call::Written { .. } => Calls::Written(all.map(both).collect()),
+            Call::Record { .. } => Calls::Records(all.map(both).collect()),
+            Call::Free { .. } => Calls::Frees(all.map(first).collect()),
+            Call::Next { .. } => Calls::Nexts(all.map(first).collect()),
+            Call::Audit => Calls::Audits(calls.len()),
+            Call::Clear => Calls::Clears(calls.len()),
+        }
+    }
+
+    /// Makes each call in its order.
+    #[inline(always)]
+    pub fn each(&self, maker: &mut impl Maker) {
+        match self {
+            Calls::Asks(list) => {
+                for &address in list {
+                    maker.one(Call::Ask { address });
+                }
+            }
+            Calls::Valids(list) => {
+                for &(address, n, from) in list {
+                    maker.one(Call::Valid { address, n, from });
+                }
+            }
+            Calls::Initialised(list) => {
+                for &(address, n) in list {
+                    maker.one(Call::Initialised { address, n });
+                }
+            }
+            Calls::Written(list) => {
+                for &(address, n) in list {
+                    maker.one(Call::Written { address, n });
+                }
+            }
+            Calls::Records(list) => {
+                for &(base, length) in list {
+                    maker.one(Call::Record { base, length });
+                }
+            }
+            Calls::Frees(list) => {
+                for &base in list {
+                    maker.one(Call::Free { base });
+                }
+            }
+            Calls::Nexts(list) => {
+                for &address in list {
+                    maker.one(Call::Next { address });
+                }
+            }
+            Calls::Audits(count) => {
+                for _ in 0..*count {
+                    maker.one(Call::Audit);
+                }
+            }
+            Calls::Clears(count) => {
+                for _ in 0..*count {
+                    maker.one(Call::Clear);
+                }
+            }
+            Calls::Mixed(list) => {
+                for &call in list {
+                    maker.one(call);
+                }
+            }
+        }
+    }
+}
+
+/// What makes one call. To be inlined always: in a loop of one kind its choice between kinds then falls away.
+pub trait Maker {
+    fn one(&mut self, call: Call);
+}
+
+/// A call's fields in a calls file; clear has none.
+fn field(call: Call, index: usize) -> u32 {
+    call.record_fields().map_or(0, |(_, fields)| fields[index])
+}
+
+fn first(call: Call) -> u32 {
+    field(call, 0)
+}
+
+fn second(call: Call) -> u32 {
+    field(call, 1)
+}
+
+fn third(call: Call) -> u32 {
+    field(call, 2)
+}
+
+fn both(call: Call) -> (u32, u32) {
+    (first(call), second(call))
+}
+
+/// The sum of the answers, by which all sides are held to have answered the same. Bases are left out: E-ACSL's are other addresses.
+#[derive(Default)]
+pub struct Weight(u64);
+
+impl Weight {
+    #[inline(always)]
+    pub fn add(&mut self, call: Call, number: u32, fields: &[u32; 4]) {
+        let told = match call {
+            Call::Ask { .. } => fields[1] + fields[2] + fields[3],
+            Call::Next { .. } => fields[1],
+            Call::Valid { .. } | Call::Initialised { .. } | Call::Audit => fields[0],
+            _ => 0,
+        };
+        self.0 += (u64::from(number) << 32) + u64::from(told);
+    }
+
+    pub fn total(self) -> u64 {
+        self.0
+    }
+}

@@ -1,0 +1,142 @@
+//! The base of the ratios: a memset of the shadow bytes that a case's calls touch.
+
+use std::hint::black_box;
+
+use model::call::Call;
+use model::map::{Area, Map};
+use model::plain::List;
+use model::plain_btree::PlainTree;
+
+use crate::case::Case;
+use crate::lists::Calls;
+use crate::side::Here;
+use crate::state::{State, HEAP_SIZE, STACK_SIZE};
+
+/// The bytes of a reading.
+const READING: usize = 9;
+const HEAP: usize = HEAP_SIZE as usize;
+const STACK: usize = STACK_SIZE as usize;
+
+/// A part of one of the three shadows.
+#[derive(Clone, Copy)]
+struct Part {
+    start: usize,
+    length: usize,
+}
+
+/// The three shadows one after the other, and room for a part that begins at the very end.
+pub struct Memset {
+    shadows: Vec<u8>,
+    parts: Vec<Part>,
+}
+
+impl Memset {
+    pub fn new() -> Self {
+        Memset {
+            shadows: vec![0; HEAP + STACK + STACK + 64],
+            parts: Vec::new(),
+        }
+    }
+}
+
+impl Here for Memset {
+    fn title(&self) -> &'static str {
+        "memset"
+    }
+
+    fn load(&mut self, _state: &State) {}
+
+    fn prepare(&mut self, state: &State, case: &Case) {
+        let mut list = state.list();
+        for &call in &case.before {
+            list.step(call);
+        }
+        self.parts.clear();
+        for &call in &case.timed {
+            touched(state.map, &mut list, call, &mut self.parts);
+            list.step(call);
+        }
+    }
+
+    fn make(&mut self, _calls: &[Call]) {}
+
+    fn measured(&mut self, _calls: &Calls) -> u64 {
+        for part in &self.parts {
+            let bytes = &mut self.shadows[part.start..part.start + part.length];
+            black_box(bytes).fill(black_box(0));
+        }
+        0
+    }
+}
+
+/// Where the shadow of an address begins in the heap shadow or the primary one.
+fn place(map: Map, address: u32) -> Option<(Area, usize)> {
+    let area = map.area(address)?;
+    let position = map.position(area, address);
+    Some(match area {
+        Area::Heap => (area, position),
+        Area::Stack => (area, HEAP + position),
+    })
+}
+
+/// The parts that a call touches, in number and length as the layouts have it.
+fn touched(map: Map, list: &mut PlainTree, call: Call, parts: &mut Vec<Part>) {
+    let mut add = |start, length| parts.push(Part { start, length });
+    let marks = |area, n: u32| match area {
+        Area::Heap => (n as usize).div_ceil(8),
+        Area::Stack => n as usize,
+    };
+    match call {
+        Call::Audit | Call::Clear => {
+            add(0, HEAP);
+            add(HEAP, STACK);
+            add(HEAP + STACK, STACK);
+        }
+        Call::Next { address } => {
+            let found = list.step(call).fields[0];
+            let (_, start) = place(map, address).expect("a search begins in an area");
+            add(start, (found - address) as usize);
+        }
+        Call::Record { base, length } => placed(map, base, length, add),
+        Call::Free { base } => placed(
+            map,
+            base,
+            list.step(Call::Ask { address: base }).fields[1],
+            add,
+        ),
+        Call::Ask { address } => {
+            if let Some((_, start)) = place(map, address) {
+                add(start, READING);
+            }
+        }
+        Call::Valid { address, from, .. } => {
+            if let Some((_, start)) = place(map, address) {
+                add(
+                    start,
+                    if from == address {
+                        READING
+                    } else {
+                        2 * READING
+                    },
+                );
+            }
+        }
+        Call::Initialised { address, n } | Call::Written { address, n } => {
+            if let Some((area, start)) = place(map, address) {
+                add(start, READING + marks(area, n));
+            }
+        }
+    }
+}
+
+fn placed(map: Map, base: u32, length: u32, mut add: impl FnMut(usize, usize)) {
+    let length = length as usize;
+    match place(map, base) {
+        Some((Area::Heap, start)) => add(start - 8, 8 + length.next_multiple_of(8)),
+        Some((Area::Stack, start)) => {
+            add(start, length);
+            add(start + STACK, length);
+        }
+        None => {}
+    }
+}

@@ -1,0 +1,127 @@
+-- What is known of an address once its area is known. Assumes nothing.
+use mathlib.Core.Path.{_≡_, refl, sym, _∙_}
+use mathlib.Core.Bool.{Bool, true, false, false≢true}
+use Prim.Native.Nat.{ℕ, _+_, _-_, _%_, _≤_, _<_}
+use native.Mathlib.Omega.{arith}
+use lib.ListN.{length}
+use borrow.Author.Tests.{leb-true}
+use Rattle.number.specs.Parts.{at}
+use Rattle.number.proofs.TestLaws.{Test, is-true, is-false, test}
+use Rattle.map.specs.declared.Map.{Map}
+use Rattle.map.specs.declared.Area.the-variants.{Heap, Stack, Outside}
+use Rattle.map.specs.Map.{goodMap, within, areaOf}
+use Rattle.map.proofs.MapLaws.{Good, good-true, within-true}
+use Rattle.plain.specs.Areas.{mapRules}
+use Rattle.plain.specs.Reading.{Reading, nothing, block, damaged}
+use Rattle.plain.specs.Lift.{readingUp}
+use Rattle.plain.specs.Ops.{readAny}
+use Rattle.plain.specs.ShadowCalls.{inOne}
+use Rattle.heap_layout.specs.Reading.{heapReading}
+use Rattle.heap_layout.proofs.ReadingLaws as heap
+use Rattle.stack_layout.specs.Reading.{stackReading}
+use Rattle.stack_layout.proofs.ReadingLaws as stack
+use Rattle.shadows.specs.Shadows.{Shadows, lengthsFit, shadowOps}
+use Rattle.shadows.proofs.ShadowLaws.{Fit, fit-true}
+
+-- ---- the area of an address
+
+module _ (m : Map) (a : ℕ) where
+  abbrev inHeap : Bool
+  inHeap = within (m .«heap_start») (m .«heap_size») a
+
+  abbrev inStack : Bool
+  inStack = within (m .«stack_start») (m .«stack_size») a
+
+  pub area-heap : areaOf m a ≡ Heap → inHeap ≡ true
+  unfolding areaOf
+  area-heap e = go (test inHeap) (test inStack)
+    where
+      go : Test inHeap → Test inStack → inHeap ≡ true
+      go (is-true h) k = h
+      go (is-false h) (is-true k) = absurd (let e′ : Stack ≡ Heap = rw (h, k) at e in let z : _≡_ {A = ℕ} 0 1 = cc in omega arith)
+      go (is-false h) (is-false k) = absurd (let e′ : Outside ≡ Heap = rw (h, k) at e in let z : _≡_ {A = ℕ} 0 1 = cc in omega arith)
+
+  pub area-stack : areaOf m a ≡ Stack → (inHeap ≡ false) × (inStack ≡ true)
+  unfolding areaOf
+  area-stack e = go (test inHeap) (test inStack)
+    where
+      go : Test inHeap → Test inStack → (inHeap ≡ false) × (inStack ≡ true)
+      go (is-true h) k = absurd (let e′ : Heap ≡ Stack = rw h at e in let z : _≡_ {A = ℕ} 0 1 = cc in omega arith)
+      go (is-false h) (is-true k) = (h, k)
+      go (is-false h) (is-false k) = absurd (let e′ : Outside ≡ Stack = rw (h, k) at e in let z : _≡_ {A = ℕ} 0 1 = cc in omega arith)
+
+  pub area-out : areaOf m a ≡ Outside → (inHeap ≡ false) × (inStack ≡ false)
+  unfolding areaOf
+  area-out e = go (test inHeap) (test inStack)
+    where
+      go : Test inHeap → Test inStack → (inHeap ≡ false) × (inStack ≡ false)
+      go (is-true h) k = absurd (let e′ : Heap ≡ Outside = rw h at e in let z : _≡_ {A = ℕ} 0 1 = cc in omega arith)
+      go (is-false h) (is-true k) = absurd (let e′ : Stack ≡ Outside = rw (h, k) at e in let z : _≡_ {A = ℕ} 0 1 = cc in omega arith)
+      go (is-false h) (is-false k) = (h, k)
+
+-- ---- good map, right lengths
+
+module _ (m : Map) (s : Shadows) (ok : goodMap m ≡ true) (fit : lengthsFit m s ≡ true) where
+  good : Good m
+  good = good-true m ok
+
+  lengths : Fit m s
+  lengths = fit-true m s fit
+
+  pub heap-lengths : (length (s .0) ≡ m .«heap_size») × (length (s .0) % 8 ≡ 0) × (length (s .0) ≤ 131072)
+  heap-lengths = (lengths .0, rw (lengths .0) (good .heapSize8), rw (lengths .0) (good .heapMost))
+
+  pub stack-lengths : (length (s .1 .0) ≡ m .«stack_size») × (length (s .1 .1) ≡ m .«stack_size») × (length (s .1 .0) ≤ 65536)
+  stack-lengths = (lengths .1 .0, lengths .1 .1, rw (lengths .1 .0) (good .stackMost))
+
+  pub ends : (m .«heap_start» + m .«heap_size» ≤ 4294967295) × (m .«stack_start» + m .«stack_size» ≤ 4294967295)
+  ends = (good .heapEnd, good .stackEnd)
+
+  -- an address of the heap
+  pub heap-position : (a : ℕ) → areaOf m a ≡ Heap → (m .«heap_start» ≤ a) × (a - m .«heap_start» < length (s .0))
+  heap-position a e =
+      let h = within-true (m .«heap_start») (m .«heap_size») a (area-heap m a e) in
+      (h .0, rw (lengths .0) (omega arith))
+
+  pub heap-there : (a p : ℕ) → areaOf m a ≡ Heap → p ≡ a - m .«heap_start» → (p < length (s .0)) × (length (s .0) % 8 ≡ 0) × (length (s .0) ≤ 131072)
+  heap-there a p e q = (rw q (heap-position a e .1), heap-lengths .1, heap-lengths .2)
+
+  pub read-heap : (a p : ℕ) → areaOf m a ≡ Heap → p ≡ a - m .«heap_start»
+      → (readAny (mapRules m) (shadowOps m) s a ≡ readingUp (m .«heap_start») (heapReading 4 8 (length (s .0)) (at (s .0)) p)) × (mapRules m .inside a ≡ true)
+  unfolding readAny
+  read-heap a p e q = rw (lengths .0, area-heap m a e, q) (refl, refl)
+
+  -- an address of the stack
+  pub stack-position : (a : ℕ) → areaOf m a ≡ Stack → (m .«stack_start» ≤ a) × (a - m .«stack_start» < length (s .1 .0))
+  stack-position a e =
+      let h = within-true (m .«stack_start») (m .«stack_size») a (area-stack m a e .1) in
+      (h .0, rw (lengths .1 .0) (omega arith))
+
+  pub stack-there : (a p : ℕ) → areaOf m a ≡ Stack → p ≡ a - m .«stack_start»
+      → (p < length (s .1 .0)) × (length (s .1 .0) ≡ length (s .1 .1)) × (length (s .1 .0) ≤ 65536)
+  stack-there a p e q = (rw q (stack-position a e .1), stack-lengths .0 ∙ sym (stack-lengths .1), stack-lengths .2)
+
+  pub read-stack : (a p : ℕ) → areaOf m a ≡ Stack → p ≡ a - m .«stack_start»
+      → (readAny (mapRules m) (shadowOps m) s a ≡ readingUp (m .«stack_start») (stackReading (length (s .1 .0)) (at (s .1 .0)) (at (s .1 .1)) p))
+      × (mapRules m .inside a ≡ true)
+  unfolding readAny
+  read-stack a p e q = let h = area-stack m a e in rw (lengths .1 .0, h .0, h .1, q) (refl, refl)
+
+pub read-out : (m : Map) (s : Shadows) (a : ℕ) → areaOf m a ≡ Outside → (readAny (mapRules m) (shadowOps m) s a ≡ nothing) × (mapRules m .inside a ≡ false)
+unfolding readAny
+read-out m s a e = let h = area-out m a e in rw (h .0, h .1) (refl, refl)
+
+-- ---- n bytes that lie in one block lie in its area
+
+in-one : (n : ℕ) (r : Reading) (P : Type 0) → ((b l o w : ℕ) → r ≡ block b l o w → o + n ≤ l → P) → inOne n r ≡ true → P
+in-one n nothing P f i = absurd (false≢true i)
+in-one n damaged P f i = absurd (false≢true i)
+in-one n (block b l o w) P f i = f b l o w refl (leb-true (o + n) l i)
+
+pub heap-room : (size : ℕ) (f : ℕ → ℕ) (p n : ℕ) → inOne n (heapReading 4 8 size f p) ≡ true → p + n ≤ size
+heap-room size f p n =
+    in-one n (heapReading 4 8 size f p) (p + n ≤ size) (λ b l o w e h. let t = heap.reading-told 4 8 size f p b l o w e in omega arith)
+
+pub stack-room : (size : ℕ) (f g : ℕ → ℕ) (p n : ℕ) → inOne n (stackReading size f g p) ≡ true → p + n ≤ size
+stack-room size f g p n =
+    in-one n (stackReading size f g p) (p + n ≤ size) (λ b l o w e h. let t = stack.reading-told size f g p b l o w e in omega arith)
