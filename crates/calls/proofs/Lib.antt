@@ -1,1 +1,4 @@
 pub mod WholeLaws
+pub mod CopyLaws
+pub mod WindowLaws
+pub mod TurnLaws

@@ -1,20 +1,27 @@
--- A decoded record has no more bytes than it was decoded from. Assumes nothing.
+-- A decoded record has no more bytes than it was decoded from, and bytes that are yet to come change nothing of it. Assumes nothing.
 use mathlib.Core.Path.{_≡_, sym}
-use mathlib.Core.List.{List}
-use Prim.Native.Nat.{ℕ, _≤_}
+use mathlib.Core.Bool.{true}
+use mathlib.Core.List.{List, _++_}
+use Prim.Native.Nat.{ℕ, _≤_, _-_}
 use native.Mathlib.Omega.{arith}
-use lib.ListN.{length}
+use lib.ListN.{length, length-take, length-drop}
 use Rattle.calls_format.specs.declared.records.Request.{Request}
 use Rattle.calls_format.specs.declared.records.Decoded.{Decoded}
-use Rattle.calls_format.specs.declared.records.Decoded.the-variants.{Call, Undecodable}
+use Rattle.calls_format.specs.declared.records.Decoded.the-variants.{Call}
 use Rattle.calls_format.specs.Decoded.{requested, decodedOf, kindOf, lengthOf}
 use Rattle.calls_format.specs.Records.{decode}
-use Rattle.calls_format.proofs.RecordLaws.{decoded-heads}
-use Rattle.calls.specs.Buffers.{Whole}
+use Rattle.calls_format.proofs.RecordLaws.{decoded-heads, decode-front}
+use Rattle.calls.specs.declared.input.Window.{Window}
+use Rattle.calls.specs.Buffers.{Held, content, Refilled}
 
-pub whole : (d : Decoded) (l : List ℕ) (n : ℕ) → length l ≡ n → decodedOf d ≡ decode l → Whole d n
-whole (Call r) l n e d = let h = decoded-heads l (requested r) (sym d) in omega (arith, h .1, h .3, e)
-whole Undecodable l n e d = tt
+pub content-length : (w : Window) (l : List ℕ) → Held w (length l) → length (content w l) ≡ w .end - w .at
+content-length w l h = simp (length-take, length-drop) (omega arith)
 
-pub request-fits : (d : Decoded) (r : Request) (n k : ℕ) → d ≡ Call r → Whole d n → k ≡ lengthOf (kindOf (requested r)) → k ≤ n
-request-fits d r n k e w q = rw q (rw e at w)
+pub request-fits : (d : Decoded) (r : Request) (l : List ℕ) → d ≡ Call r → decodedOf d ≡ decode l → lengthOf (kindOf (requested r)) ≤ length l
+request-fits d r l e w = let h = decoded-heads l (requested r) (sym (rw e at w)) in omega (arith, h .1, h .3)
+
+-- the first record of a refilled window is that of the input: where there may be more, whatever comes changes nothing
+pub first-whole : (w r : Window) (entry exit coming : List ℕ) → Refilled w r (length exit) entry exit → r .more ≡ true
+    → decode (content r exit ++ coming) ≡ decode (content r exit)
+first-whole w r entry exit coming h m =
+    decode-front (content r exit) coming (omega (arith, content-length r exit (h .held), h .long m))

@@ -1,7 +1,11 @@
 // Standard input through a buffer: wherever the reads end, a record is whole in it.
+ghost use mathlib.Core.Path.{_≡_};
 ghost use Prim.Native.Nat.{_+_, _-_, _≤_};
-ghost use lib.ListN.{length};
-ghost use Rattle.calls.specs.Buffers.{Held, Whole};
+ghost use lib.ListN.{length, drop};
+ghost use lib.Seq.{paste};
+ghost use Rattle.calls_format.specs.Decoded.{decodedOf};
+ghost use Rattle.calls_format.specs.Records.{decode};
+ghost use Rattle.calls.specs.Buffers.{Held, Refilled, content};
 use calls_format::records;
 use calls_format::records::Decoded;
 use libc::STDIN_FILENO;
@@ -25,23 +29,24 @@ fn read_some(room: &mut [u8]) -> usize
 }
 
 // Moves what is left to the buffer's start.
-fn settle(buffer: &mut [u8], at: usize, end: usize)
-    requires { ⌜ (at ≤ end) × (end ≤ length (now buffer)) ⌝ }
+fn settle(buffer: &mut [u8], from: usize, end: usize)
+    requires { ⌜ (from ≤ end) × (end ≤ length (now buffer)) ⌝ }
+    ensures { λ _. ⌜ now (buffer .exit) ≡ paste (now (buffer .entry)) 0 (drop from (now (buffer .entry))) (end - from) ⌝ }
 {
-    for i in 0..end - at {
-        buffer[i] = buffer[at + i];
+    for i in 0..end - from {
+        buffer[i] = buffer[from + i];
     }
 }
 
 // Reads on behind what is left, until a record is whole or the input ends. Each read brings a byte at least.
 fn read_on(buffer: &mut [u8], w: Window) -> Window
     requires { ⌜ Held w (length (now buffer)) ⌝ }
-    ensures { λ r. ⌜ Held r (length (now (buffer .entry))) ⌝ }
+    ensures { λ r. ⌜ Refilled w r (length (now (buffer .entry))) (now (buffer .entry)) (now (buffer .exit)) ⌝ }
 {
-    let at = w.at;
+    let from = w.at;
     let end = w.end;
-    settle(buffer, at, end);
-    let mut filled = end - at;
+    settle(buffer, from, end);
+    let mut filled = end - from;
     let mut more = true;
     for _ in 0..LONGEST {
         if LONGEST <= filled {
@@ -64,7 +69,7 @@ fn read_on(buffer: &mut [u8], w: Window) -> Window
 // The window with a whole record in it, where the input has one.
 pub fn refill(buffer: &mut [u8; 65536], w: Window) -> Window
     requires { ⌜ Held w 65536 ⌝ }
-    ensures { λ r. ⌜ Held r 65536 ⌝ }
+    ensures { λ r. ⌜ Refilled w r 65536 (now (buffer .entry)) (now (buffer .exit)) ⌝ }
 {
     if w.more {
         if w.end - w.at < LONGEST {
@@ -76,17 +81,17 @@ pub fn refill(buffer: &mut [u8; 65536], w: Window) -> Window
 
 fn decode_in(buffer: &[u8], w: Window) -> Decoded
     requires { ⌜ Held w (length (now buffer)) ⌝ }
-    ensures { λ r. ⌜ Whole r (w .end - w .at) ⌝ }
+    ensures { λ r. ⌜ decodedOf r ≡ decode (content w (now (buffer .entry))) ⌝ }
 {
-    let at = w.at;
+    let from = w.at;
     let end = w.end;
-    records::decode(&buffer[at..end])
+    records::decode(&buffer[from..end])
 }
 
 // The record that the window begins with.
-pub fn next(buffer: &[u8; 65536], w: Window) -> Decoded
+pub fn first(buffer: &[u8; 65536], w: Window) -> Decoded
     requires { ⌜ Held w 65536 ⌝ }
-    ensures { λ r. ⌜ Whole r (w .end - w .at) ⌝ }
+    ensures { λ r. ⌜ decodedOf r ≡ decode (content w (now (buffer .entry))) ⌝ }
 {
     decode_in(buffer, w)
 }
@@ -94,7 +99,7 @@ pub fn next(buffer: &[u8; 65536], w: Window) -> Decoded
 // The window past a record.
 pub fn past(w: Window, length: usize) -> Window
     requires { ⌜ Held w 65536 × (length ≤ w .end - w .at) ⌝ }
-    ensures { λ r. ⌜ Held r 65536 ⌝ }
+    ensures { λ r. ⌜ (r .at ≡ w .at + length) × (r .end ≡ w .end) × (r .more ≡ w .more) ⌝ }
 {
     Window {
         at: w.at + length,

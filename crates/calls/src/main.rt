@@ -2,7 +2,10 @@
 mod input;
 mod output;
 
-ghost use Rattle.calls.specs.Buffers.{Goes};
+ghost use mathlib.Core.Path.{_≡_};
+ghost use mathlib.Core.Bool.{false};
+ghost use Rattle.calls_format.specs.Kept.{kept};
+ghost use Rattle.calls.specs.Buffers.{Goes, Turned};
 use calls_format::records;
 use calls_format::records::Decoded;
 use calls_format::serving;
@@ -18,38 +21,40 @@ pub struct Run {
     pub on: bool,
 }
 
+// The run at its end.
+fn ended(map: Map, window: Window, pending: Pending) -> Run
+    ensures { λ r. ⌜ (r .map ≡ map) × (r .window ≡ window) × (r .pending ≡ pending) × (r .on ≡ false) ⌝ }
+{
+    Run {
+        map,
+        window,
+        pending,
+        on: false,
+    }
+}
+
 // One record, or the end of the input.
 fn turn(
     heap: &mut [u8; 32768],
     primary: &mut [u8; 16384],
     secondary: &mut [u8; 16384],
-    taken: &mut [u8; 65536],
+    bytes: &mut [u8; 65536],
     lines: &mut [u8; 65536],
     run: Run,
 ) -> Run
     requires { ⌜ Goes run ⌝ }
-    ensures { λ r. ⌜ Goes r ⌝ }
+    ensures { λ r. ⌜ Turned run r (kept (run .map) (now (heap .entry)) (now (primary .entry)) (now (secondary .entry)))
+        (kept (r .map) (now (heap .exit)) (now (primary .exit)) (now (secondary .exit)))
+        (now (bytes .entry)) (now (bytes .exit)) (now (lines .entry)) (now (lines .exit)) ⌝ }
 {
     let map = run.map;
     let pending = run.pending;
-    let window = input::refill(taken, run.window);
+    let window = input::refill(bytes, run.window);
     if window.at == window.end {
-        output::flush(lines, pending);
-        return Run {
-            map,
-            window,
-            pending,
-            on: false,
-        };
+        return ended(map, window, pending);
     }
-    let Decoded::Call(request) = input::next(taken, window) else {
-        output::last(lines, pending);
-        return Run {
-            map,
-            window,
-            pending,
-            on: false,
-        };
+    let Decoded::Call(request) = input::first(bytes, window) else {
+        return ended(map, window, output::undecodable(lines, pending));
     };
     let served = serving::serve(map, heap, primary, secondary, request);
     let told = output::line(lines, pending, records::kind_of(request), served.answer);
@@ -66,7 +71,7 @@ fn main() {
     let mut heap = [0u8; 32768];
     let mut primary = [0u8; 16384];
     let mut secondary = [0u8; 16384];
-    let mut taken = [0u8; 65536];
+    let mut bytes = [0u8; 65536];
     let mut lines = [0u8; 65536];
     let mut run = Run {
         map: Map {
@@ -95,9 +100,12 @@ fn main() {
             &mut heap,
             &mut primary,
             &mut secondary,
-            &mut taken,
+            &mut bytes,
             &mut lines,
             run,
         );
+    }
+    if run.pending.open {
+        output::flush(&lines, run.pending);
     }
 }

@@ -1,7 +1,11 @@
 // Standard output through a buffer.
+ghost use mathlib.Core.Path.{_≡_};
 ghost use Prim.Native.Nat.{_+_, _≤_};
-ghost use lib.ListN.{length};
-ghost use Rattle.calls.specs.Buffers.{Waits};
+ghost use lib.ListN.{length, take};
+ghost use Rattle.monitor_base.specs.Answers.{answerOf};
+ghost use Rattle.calls_format.specs.Lines as lines;
+ghost use Rattle.calls_format.specs.Program as program;
+ghost use Rattle.calls.specs.Buffers.{Waits, Added, stays};
 use calls_format::lines;
 use libc::STDOUT_FILENO;
 use monitor::Answer;
@@ -28,7 +32,8 @@ pub fn flush(buffer: &[u8; 65536], p: Pending)
 // What waits, with room for a line behind it.
 fn with_room(buffer: &[u8], p: Pending) -> Pending
     requires { ⌜ Waits p (length (now buffer)) × (64 ≤ length (now buffer)) ⌝ }
-    ensures { λ r. ⌜ r .filled + 64 ≤ length (now (buffer .entry)) ⌝ }
+    ensures { λ r. ⌜ (r .filled + 64 ≤ length (now (buffer .entry))) × (r .filled ≡ stays (p .filled) (length (now (buffer .entry))))
+        × (p .filled + 64 ≤ length (now (buffer .entry)) → r .open ≡ p .open) ⌝ }
 {
     if p.filled + 64 <= buffer.len() {
         return p;
@@ -40,17 +45,18 @@ fn with_room(buffer: &[u8], p: Pending) -> Pending
 }
 
 // The first n bytes of a text behind what waits.
-fn append(buffer: &mut [u8], p: Pending, text: &[u8; 64], n: usize) -> Pending
-    requires { ⌜ Waits p (length (now buffer)) × (64 ≤ length (now buffer)) × (n ≤ 64) ⌝ }
-    ensures { λ r. ⌜ Waits r (length (now (buffer .entry))) ⌝ }
+fn append(buffer: &mut [u8], p: Pending, text: &[u8], n: usize) -> Pending
+    requires { ⌜ Waits p (length (now buffer)) × (64 ≤ length (now buffer)) × (n ≤ 64) × (n ≤ length (now text)) ⌝ }
+    ensures { λ r. ⌜ Added p r (take n (now (text .entry))) (length (now (buffer .entry))) (now (buffer .entry)) (now (buffer .exit)) ⌝ }
 {
     let q = with_room(buffer, p);
     let start = q.filled;
     for i in 0..n {
         buffer[start + i] = text[i];
     }
+    let filled = start + n;
     Pending {
-        filled: start + n,
+        filled,
         open: q.open,
     }
 }
@@ -58,20 +64,20 @@ fn append(buffer: &mut [u8], p: Pending, text: &[u8; 64], n: usize) -> Pending
 // The line of a call.
 pub fn line(buffer: &mut [u8; 65536], p: Pending, kind: u32, answer: Answer) -> Pending
     requires { ⌜ Waits p 65536 ⌝ }
-    ensures { λ r. ⌜ Waits r 65536 ⌝ }
+    ensures { λ r. ⌜ Added p r (lines.line kind (answerOf answer)) 65536 (now (buffer .entry)) (now (buffer .exit)) ⌝ }
 {
     let mut text = [0u8; 64];
     let n = lines::render(&mut text, kind, answer);
     append(buffer, p, &text, n)
 }
 
-// The line of an undecodable record, after all that waits.
-pub fn last(buffer: &mut [u8; 65536], p: Pending)
+// The line of an undecodable record.
+pub fn undecodable(buffer: &mut [u8; 65536], p: Pending) -> Pending
     requires { ⌜ Waits p 65536 ⌝ }
+    ensures { λ r. ⌜ Added p r program.undecodable 65536 (now (buffer .entry)) (now (buffer .exit)) ⌝ }
 {
     let mut text = [0u8; 64];
     text[0] = 57;
     text[1] = 10;
-    let q = append(buffer, p, &text, 2);
-    flush(buffer, q);
+    append(buffer, p, &text, 2)
 }

@@ -191,3 +191,6 @@ pub wrote-line : (k : ℕ) (r : Answer) (p q e : ℕ) (l l₁ l₂ l₃ : List �
 wrote-line k r p q e l l₁ l₂ l₃ a b c =
     rw (← line-parts k r)
     (wrote-both _ _ 0 e (e + 1) l l₃ (set l₃ e 10) (wrote-both _ _ 0 q e l l₂ l₃ (wrote-both _ _ 0 p q l l₁ l₂ a b) c) (wrote-one 10 e l₃))
+
+pub line-as : {k k′ : ℕ} {a a′ : Answer} → k ≡ k′ → a ≡ a′ → line k a ≡ line k′ a′
+line-as e f = rw (e, f)

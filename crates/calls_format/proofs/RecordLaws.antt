@@ -1,17 +1,20 @@
 -- What the first record decodes to in each case, and the kind and length of a decoded request. Assumes nothing.
 use mathlib.Core.Path.{_≡_, refl, sym, _∙_}
 use mathlib.Core.Bool.{_&&_}
-use mathlib.Core.List.{List}
+use mathlib.Core.List.{List, _++_}
 use mathlib.Core.Logic.{_≢_}
 use mathlib.Core.Option.{Option, none, some}
-use Prim.Native.Nat.{ℕ, zero, suc, _≤_, _<_}
+use Prim.Native.Nat.{ℕ, zero, suc, _+_, _≤_, _<_}
 use native.Mathlib.Omega.{arith}
-use lib.ListN.{length}
+use lib.ListN.{length, length-append, List·getD-append}
 use lib.Dec.{leb, eqb}
 use borrow.Author.Tests.{le-leb, lt-leb, eq-eqb, ne-eqb, leb-true, eqb-true}
 use Rattle.number.proofs.TestLaws.{Test, is-true, is-false, test, and-true, and-false-r}
+use Rattle.number.specs.Little.{word}
+use Rattle.number.specs.Parts.{at}
+use Rattle.number.proofs.LittleLaws.{word-same}
 use Rattle.calls_format.specs.Records.{Request, lengthField, kindField, fieldsOf, requestOf, recordLength, decodeAs, decode}
-use Rattle.calls_format.specs.Decoded.{kindOf, lengthFor, lengthOf}
+use Rattle.calls_format.specs.Decoded.{kindOf, lengthFor, lengthOf, longest}
 
 -- a kind that is known to be j has j's length
 pub reach : {k n : ℕ} (j : ℕ) → k ≡ j → lengthOf k ≤ n → lengthOf j ≤ n
@@ -115,3 +118,49 @@ decoded-heads l r e = go (test (leb 4 (length l))) (fieldsOf (kindField l)) refl
     go (is-false t) o f = absurd (let z : none ≡ some r = rw t at e in let w : _≡_ {A = ℕ} 0 1 = cc in omega arith)
     go (is-true t) none f = absurd (let z : none ≡ some r = rw (t, f) at e in let w : _≡_ {A = ℕ} 0 1 = cc in omega arith)
     go (is-true t) (some n) f = known n f (test (eqb (lengthField l) (recordLength n) && leb (recordLength n) (length l))) (rw (t, f) at e)
+
+-- ---- bytes past the longest record change nothing
+
+pub longest-holds : (k : ℕ) → lengthOf k ≤ longest
+unfolding fieldsOf
+longest-holds zero = omega arith
+longest-holds (suc zero) = omega arith
+longest-holds (suc (suc zero)) = omega arith
+longest-holds (suc (suc (suc zero))) = omega arith
+longest-holds (suc (suc (suc (suc zero)))) = omega arith
+longest-holds (suc (suc (suc (suc (suc zero))))) = omega arith
+longest-holds (suc (suc (suc (suc (suc (suc zero)))))) = omega arith
+longest-holds (suc (suc (suc (suc (suc (suc (suc zero))))))) = omega arith
+longest-holds (suc (suc (suc (suc (suc (suc (suc (suc zero)))))))) = omega arith
+longest-holds (suc (suc (suc (suc (suc (suc (suc (suc (suc zero))))))))) = omega arith
+longest-holds (suc (suc (suc (suc (suc (suc (suc (suc (suc (suc k)))))))))) =
+    let k′ : ℕ = suc (suc (suc (suc (suc (suc (suc (suc (suc (suc k))))))))) in
+    let u : fieldsOf k′ ≡ none =
+    no-kind k′ (omega arith) (omega arith) (omega arith) (omega arith) (omega arith) (omega arith) (omega arith) (omega arith) (omega arith) in
+    rw u (omega arith)
+
+module _ (l m : List ℕ) (h : longest ≤ length l) where
+  word-front : (p w : ℕ) → p + w ≤ longest → word (at (l ++ m)) p w ≡ word (at l) p w
+  word-front p w k = word-same (at (l ++ m)) (at l) p p w (λ i x. List·getD-append l m 0 (p + i) (omega arith))
+
+  request-front : (k : ℕ) → requestOf k (l ++ m) ≡ requestOf k l
+  unfolding requestOf
+  request-front k = rw (word-front 4 4 (omega arith), word-front 8 4 (omega arith), word-front 12 4 (omega arith), word-front 16 4 (omega arith))
+
+  as-front : (o : Option ℕ) → lengthFor o ≤ longest → decodeAs (l ++ m) o ≡ decodeAs l o
+  as-front none b = refl
+  as-front (some n) b =
+      rw (
+        word-front 0 2 (omega arith),
+        word-front 2 2 (omega arith),
+        request-front (kindField l),
+        le-leb (recordLength n) (length (l ++ m)) (omega (arith, length-append l m)),
+        le-leb (recordLength n) (length l) (omega arith),
+      )
+
+  -- where the longest record is there, more bytes decode to the same
+  pub decode-front : decode (l ++ m) ≡ decode l
+  unfolding decode
+  decode-front =
+      rw (le-leb 4 (length (l ++ m)) (omega (arith, length-append l m)), le-leb 4 (length l) (omega arith), word-front 2 2 (omega arith))
+      (as-front (fieldsOf (kindField l)) (longest-holds (kindField l)))

@@ -42,3 +42,7 @@ lengthFor (some n) = recordLength n
 -- the length of a record of a kind
 abbrev pub lengthOf : (kind : ℕ) → ℕ
 lengthOf k = lengthFor (fieldsOf k)
+
+-- the length of the longest record, that of a new map
+abbrev pub longest : ℕ
+longest = 20

@@ -4,3 +4,4 @@ pub mod Lines
 pub mod Writing
 pub mod Running
 pub mod Kept
+pub mod Program

@@ -1,12 +1,39 @@
--- What the calls that tell of addresses answer to readings, once map and lengths are right. Assumes nothing.
+-- Where an address lies: what is read there. What the calls that tell of addresses answer to readings, once map and lengths are right.
+-- Assumes nothing.
+use mathlib.Core.Path.{_≡_}
 use mathlib.Core.Bool.{Bool, false, cond, _&&_, _||_}
-use Prim.Native.Nat.{ℕ, _<_}
+use mathlib.Core.List.{List}
+use Prim.Native.Nat.{ℕ, _%_, _≤_, _<_}
+use lib.ListN.{length}
+use Rattle.number.specs.Parts.{at}
+use Rattle.map.specs.declared.Map.{Map}
 use Rattle.plain.specs.Call as plain
 use Rattle.plain.specs.Call.{answer, refusal, yesNo}
 use Rattle.plain.specs.declared.Reading as code
 use Rattle.plain.specs.declared.Reading.the-variants as case
 use Rattle.plain.specs.Reading.{Reading, nothing, block, damaged}
 use Rattle.plain.specs.ShadowCalls.{isDamaged, inOne, sameBlock}
+use Rattle.heap_layout.specs.Reading.{heapReading}
+use Rattle.stack_layout.specs.Reading.{stackReading}
+use Rattle.monitor_base.specs.declared.Located.{Located}
+use Rattle.monitor_base.specs.declared.Located.the-variants.{Heap, Stack, Outside}
+
+-- the position lies in the area's shadows, whose lengths are those of a good map
+abbrev pub There : Located → (heap primary secondary : List ℕ) → Type 0
+There (Heap q) h p s = (q .0 < length h) × (length h % 8 ≡ 0) × (length h ≤ 131072)
+There (Stack q) h p s = (q .0 < length p) × (length p ≡ length s) × (length p ≤ 65536)
+There Outside h p s = Unit {0}
+
+-- the reading there, by positions, and where the area begins from which they count
+abbrev pub readingAt : Located → (heap primary secondary : List ℕ) → Reading
+readingAt (Heap q) h p s = heapReading 4 8 (length h) (at h) (q .0)
+readingAt (Stack q) h p s = stackReading (length p) (at p) (at s) (q .0)
+readingAt Outside h p s = nothing
+
+abbrev pub originOf : Map → Located → ℕ
+originOf m (Heap q) = m .«heap_start»
+originOf m (Stack q) = m .«stack_start»
+originOf m Outside = 0
 
 -- the reading of an address that lies in an area
 abbrev pub askReading : Reading → plain.Answer

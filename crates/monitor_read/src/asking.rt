@@ -6,7 +6,7 @@ ghost use Rattle.plain.specs.Call as plain;
 ghost use Rattle.plain.specs.Lift.{readingUp};
 ghost use Rattle.monitor_base.specs.Answers.{answerOf, outcome};
 ghost use Rattle.monitor_base.specs.Calls.{call};
-ghost use Rattle.monitor_read.specs.Asked.{askReading, baseBelow};
+ghost use Rattle.monitor_read.specs.Asked.{There, readingAt, originOf, askReading, baseBelow};
 use map::Address;
 use map::Map;
 use monitor_base::Answer;
@@ -14,6 +14,29 @@ use monitor_base::Located;
 use monitor_base::guard;
 use monitor_base::locating::locate;
 use plain::Reading;
+
+// The reading of where an address lies, by positions.
+fn reading(heap: &[u8], primary: &[u8], secondary: &[u8], l: Located) -> Reading
+    requires { ⌜ There l (now heap) (now primary) (now secondary) ⌝ }
+    ensures { λ r. ⌜ readingOf r ≡ readingAt l (now (heap .entry)) (now (primary .entry)) (now (secondary .entry)) ⌝ }
+{
+    match l {
+        Located::Heap(p) => heap::read(heap, p),
+        Located::Stack(p) => stack::read(primary, secondary, p),
+        Located::Outside => Reading::Nothing,
+    }
+}
+
+// The start of the area that it lies in: the origin of its positions.
+fn origin(map: Map, l: Located) -> Address
+    ensures { λ r. ⌜ r .0 ≡ originOf map l ⌝ }
+{
+    match l {
+        Located::Heap(_) => Address(map.heap_start),
+        Located::Stack(_) => Address(map.stack_start),
+        Located::Outside => Address(0),
+    }
+}
 
 // What ask answers to a reading in the area that begins at start.
 fn told(r: Reading, start: Address) -> Answer
@@ -44,9 +67,9 @@ pub fn ask(map: Map, heap: &[u8], primary: &[u8], secondary: &[u8], a: Address) 
     if k != 0 {
         return guard::refusal(k);
     }
-    match locate(map, a) {
-        Located::Heap(p) => told(heap::read(heap, p), Address(map.heap_start)),
-        Located::Stack(p) => told(stack::read(primary, secondary, p), Address(map.stack_start)),
-        Located::Outside => guard::refusal(4),
+    let l = locate(map, a);
+    if let Located::Outside = l {
+        return guard::refusal(4);
     }
+    told(reading(heap, primary, secondary, l), origin(map, l))
 }

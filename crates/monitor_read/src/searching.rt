@@ -1,6 +1,5 @@
 // The search for the next block: one area after the other, the lower first.
 ghost use mathlib.Core.Path.{_≡_};
-ghost use mathlib.Core.Bool.{Bool};
 ghost use Prim.Native.Nat.{_-_, _%_, _≤_};
 ghost use lib.ListN.{length};
 ghost use Rattle.number.specs.Parts.{at};

@@ -1,6 +1,6 @@
 // Whether bytes lie in one block with another: two readings in the areas that they lie in, and an answer.
 ghost use mathlib.Core.Path.{_≡_};
-ghost use mathlib.Core.Bool.{Bool, true};
+ghost use mathlib.Core.Bool.{true};
 ghost use Prim.Native.Nat.{ℕ, _<_};
 ghost use lib.ListN.{length};
 ghost use Rattle.number.specs.Parts.{at};

@@ -1,12 +1,12 @@
 -- The two areas of a good map: an address of the heap, and one of the stack, is a position of that area's shadows. Assumes nothing.
 use mathlib.Core.Path.{_≡_, refl, sym, _∙_}
-use mathlib.Core.Bool.{true, false, false≢true}
+use mathlib.Core.Bool.{true, false}
 use mathlib.Core.List.{List}
 use Prim.Native.Nat.{ℕ, _+_, _-_, _%_, _≤_, _<_}
 use native.Mathlib.Omega.{arith}
 use lib.ListN.{length}
 use lib.Dec.{leb, eqb}
-use borrow.Author.Tests.{leb-true, eqb-true}
+use borrow.Author.Tests.{eqb-true}
 use Rattle.number.specs.Parts.{at}
 use Rattle.number.proofs.TestLaws.{Test, is-true, is-false, test, and-false-r, false-of, cond-true}
 use Rattle.map.specs.declared.Map.{Map}
@@ -17,7 +17,7 @@ use Rattle.plain.specs.Rules.{Rules}
 use Rattle.plain.specs.Areas.{heapRules, stackRules, mapRules}
 use Rattle.plain.specs.Reading.{Reading, nothing, block, damaged}
 use Rattle.plain.specs.Ops.{readAny}
-use Rattle.plain.specs.ShadowCalls.{inOne, lengthOf}
+use Rattle.plain.specs.ShadowCalls.{lengthOf}
 use Rattle.plain.proofs.AreaLaws.{heap-shifted, heap-unshifted, stack-shifted, stack-unshifted}
 use Rattle.heap_layout.specs.Reading.{heapReading}
 use Rattle.heap_layout.specs.Ops.{heapOps}

@@ -6,11 +6,10 @@ use Rattle.calls.proofs.main.Statement.{statement}
 use Rattle.calls.proofs.main.Tie as tie
 
 abbrev Inv-loop : tie.InvT-loop
-Inv-loop heap₀ primary₀ secondary₀ taken₀ lines₀ run₀ counter₀ heap primary secondary taken lines run counter =
-    (counter ≤ 18446744073709551615) × Goes run
+Inv-loop heap₀ primary₀ secondary₀ bytes₀ lines₀ run₀ counter₀ heap primary secondary bytes lines run counter = (counter ≤ 18446744073709551615) × Goes run
 
 abbrev μ-loop : tie.MeasureT-loop
-μ-loop heap₀ primary₀ secondary₀ taken₀ lines₀ run₀ counter₀ heap primary secondary taken lines run counter = 18446744073709551615 - counter
+μ-loop heap₀ primary₀ secondary₀ bytes₀ lines₀ run₀ counter₀ heap primary secondary bytes lines run counter = 18446744073709551615 - counter
 
 loop-holds : tie.Need-loop-holds Inv-loop μ-loop
 loop-holds c = search needs
@@ -25,7 +24,10 @@ loop-less : tie.Need-loop-less Inv-loop μ-loop
 loop-less c = search needs
 
 loop-again : tie.Need-loop-again Inv-loop μ-loop
-loop-again c = search needs
+loop-again c = (search needs, c .turn .ensures .goes)
+
+flush-requires : tie.Need-flush-requires Inv-loop μ-loop
+flush-requires c κs = search needs
 
 returns : tie.Need-returns Inv-loop μ-loop
 returns c = search needs
@@ -44,5 +46,6 @@ main-spec =
     add-counter
     loop-less
     loop-again
+    flush-requires
     returns
     returns-2)

@@ -1,16 +1,23 @@
 -- `calls::input::read_on` meets its contract. Assumes nothing.
-use mathlib.Core.Path.{_≡_}
-use Prim.Native.Nat.{_-_, _≤_}
-use lib.ListN.{length}
+use mathlib.Core.Path.{_≡_, refl, _∙_}
+use Prim.Native.Nat.{ℕ, _-_, _≤_}
+use native.Mathlib.Omega.{arith}
+use mathlib.Core.Bool.{false}
+use denote.Ref.{now}
+use lib.ListN.{length, take}
+use Rattle.calls.proofs.CopyLaws.{before-part}
+use Rattle.calls.proofs.WindowLaws.{refilled}
 use borrow.Author.Needs.{needs}
 use Rattle.calls.proofs.input.read_on.Statement.{statement}
 use Rattle.calls.proofs.input.read_on.Tie as tie
 
 abbrev Inv-loop : tie.InvT-loop
-Inv-loop buffer₀ at end filled₀ more₀ counter₀ buffer filled more counter = (counter ≤ 20) × (filled ≤ length buffer) × (length buffer ≡ length buffer₀)
+Inv-loop buffer₀ from end filled₀ more₀ counter₀ buffer filled more counter =
+    (counter ≤ 20) × (filled ≤ length buffer) × (length buffer ≡ length buffer₀)
+    × (counter ≤ filled) × (end - from ≤ filled) × (take (end - from) buffer ≡ take (end - from) buffer₀)
 
 abbrev μ-loop : tie.MeasureT-loop
-μ-loop buffer₀ at end filled₀ more₀ counter₀ buffer filled more counter = 20 - counter
+μ-loop buffer₀ from end filled₀ more₀ counter₀ buffer filled more counter = 20 - counter
 
 settle-requires : tie.Need-settle-requires Inv-loop μ-loop
 settle-requires c κs = search needs
@@ -19,7 +26,7 @@ sub-filled : tie.Need-sub-filled Inv-loop μ-loop
 sub-filled c = search needs
 
 loop-holds : tie.Need-loop-holds Inv-loop μ-loop
-loop-holds c = search needs
+loop-holds c = (search needs, search needs, search needs, search needs, search needs, refl)
 
 sub-read-some : tie.Need-sub-read-some Inv-loop μ-loop
 sub-read-some c = search needs
@@ -43,25 +50,38 @@ loop-less : tie.Need-loop-less Inv-loop μ-loop
 loop-less c = search needs
 
 loop-again : tie.Need-loop-again Inv-loop μ-loop
-loop-again c = search needs
+loop-again c =
+    let l = c .before .before .before .before .before .before .before .loop in
+    (search needs, search needs, search needs, search needs, search needs, before-part _ (l .filled) (l .buffer) _ (l .inv .4) (l .inv .1) ∙ l .inv .5)
 
 same-length : tie.Need-same-length Inv-loop μ-loop
 same-length c = search needs
 
 returns : tie.Need-returns Inv-loop μ-loop
-returns c = search needs
+returns c =
+    let l = c .before .loop in
+    let s = c .before .before .before .before .before .before .before in
+    refilled (s .args .w) (l .filled) (l .more) (now (s .args .buffer)) _ (l .buffer) (s .pre) (l .inv .4) (omega arith) (c .before .before .before .before .settle .ensures) (l .inv .5) (λ t. omega arith)
 
 same-length-2 : tie.Need-same-length-2 Inv-loop μ-loop
 same-length-2 c = search needs
 
 returns-2 : tie.Need-returns-2 Inv-loop μ-loop
-returns-2 c = search needs
+returns-2 c =
+    let l = c .before .before .loop in
+    let s = c .before .before .before .before .before .before .before .before in
+    refilled (s .args .w) (l .filled) (l .more) (now (s .args .buffer)) _ (l .buffer) (s .pre) (l .inv .4) (omega arith) (c .before .before .before .before .before .settle .ensures) (l .inv .5) (λ t. omega arith)
 
 same-length-3 : tie.Need-same-length-3 Inv-loop μ-loop
 same-length-3 c = search needs
 
 returns-3 : tie.Need-returns-3 Inv-loop μ-loop
-returns-3 c = search needs
+returns-3 c =
+    let l = c .before .before .before .before .before .before .before .loop in
+    let s = c .before .before .before .before .before .before .before .before .before .before .before .before .before in
+    refilled (s .args .w) (l .filled) false (now (s .args .buffer)) _ _ (s .pre) (l .inv .4) (omega arith) (c .before .before .before .before .before .before .before .before .before .before .settle .ensures)
+    (before-part _ (l .filled) (l .buffer) _ (l .inv .4) (l .inv .1) ∙ l .inv .5)
+    (λ t. absurd (let z : _≡_ {A = ℕ} 0 1 = cc in omega arith))
 
 pub read-on-spec : {M : Type 1} → statement M
 read-on-spec =

@@ -1,13 +1,17 @@
 -- `calls::output::append` meets its contract. Assumes nothing.
-use mathlib.Core.Path.{_≡_}
+use mathlib.Core.Path.{_≡_, refl}
 use Prim.Native.Nat.{_-_, _≤_}
-use lib.ListN.{length}
+use native.Mathlib.Omega.{arith}
+use denote.Ref.{now}
+use lib.ListN.{length, length-set}
+use lib.Seq.{paste, paste-zero}
+use Rattle.calls.proofs.CopyLaws.{copy-step, copied}
 use borrow.Author.Needs.{needs}
 use Rattle.calls.proofs.output.append.Statement.{statement}
 use Rattle.calls.proofs.output.append.Tie as tie
 
 abbrev Inv-loop : tie.InvT-loop
-Inv-loop buffer₀ text n q start i₀ buffer i = (i ≤ n) × (length buffer ≡ length buffer₀)
+Inv-loop buffer₀ text n q start i₀ buffer i = (i ≤ n) × (length buffer ≡ length buffer₀) × (buffer ≡ paste buffer₀ start text i)
 
 abbrev μ-loop : tie.MeasureT-loop
 μ-loop buffer₀ text n q start i₀ buffer i = n - i
@@ -16,10 +20,10 @@ with-room-requires : tie.Need-with-room-requires Inv-loop μ-loop
 with-room-requires c κs = search needs
 
 loop-holds : tie.Need-loop-holds Inv-loop μ-loop
-loop-holds c = search needs
+loop-holds c = (search needs, search needs, paste-zero _ (c .with-room .result .filled) (now (c .before .before .before .before .args .text)))
 
-element-copy-out-buffer : tie.Need-element-copy-out-buffer Inv-loop μ-loop
-element-copy-out-buffer c = search needs
+shared-slice-read-buffer : tie.Need-shared-slice-read-buffer Inv-loop μ-loop
+shared-slice-read-buffer c = search needs
 
 add-buffer : tie.Need-add-buffer Inv-loop μ-loop
 add-buffer c = search needs
@@ -34,16 +38,28 @@ loop-less : tie.Need-loop-less Inv-loop μ-loop
 loop-less c = search needs
 
 loop-again : tie.Need-loop-again Inv-loop μ-loop
-loop-again c = search needs
+loop-again c =
+    let a = c .before .before .before .before .before .before .before .args in
+    let q = c .before .before .before .with-room in
+    let l = c .before .before .loop in
+    (omega arith, simp length-set (l .inv .1), copy-step (now (a .buffer)) (l .buffer) (now (a .text)) (q .result .filled) (l .i) _ _ refl (omega (arith, q .ensures .0)) (omega arith) (l .inv .2) refl)
 
-add-t16 : tie.Need-add-t16 Inv-loop μ-loop
-add-t16 c = search needs
+add-filled : tie.Need-add-filled Inv-loop μ-loop
+add-filled c = search needs
 
 same-length : tie.Need-same-length Inv-loop μ-loop
 same-length c = search needs
 
 returns : tie.Need-returns Inv-loop μ-loop
-returns c = search needs
+returns c =
+    let a = c .before .before .before .before .before .before .args in
+    let q = c .before .before .with-room in
+    let l = c .before .loop in
+    record {
+      lies = search needs;
+      holds = rw (← q .ensures .1) (copied (now (a .buffer)) (l .buffer) (now (a .text)) (q .result .filled) (a .n) (l .i) _ (omega arith) refl (omega (arith, q .ensures .0)) (omega arith) (l .inv .2));
+      still = q .ensures .2;
+    }
 
 pub append-spec : {M : Type 1} → statement M
 append-spec =
@@ -53,12 +69,12 @@ append-spec =
     μ-loop
     with-room-requires
     loop-holds
-    element-copy-out-buffer
+    shared-slice-read-buffer
     add-buffer
     slice-write-buffer
     add-i
     loop-less
     loop-again
-    add-t16
+    add-filled
     same-length
     returns)

@@ -1,20 +1,31 @@
--- `monitor_read::asking::ask` meets its contract: one arm for each area. Assumes nothing.
+-- `monitor_read::asking::ask` meets its contract. Assumes nothing.
 use mathlib.Core.Path.{_≡_, sym, _∙_}
 use mathlib.Core.Bool.{true}
+use mathlib.Core.List.{[], _∷_}
+use mathlib.Core.Logic.{⊎-elim}
+use Prim.Native.Nat.{ℕ}
+use native.Mathlib.Omega.{arith}
+use types.Run.{OneOf}
+use denote.Enum.Declared.{tagOf}
 use denote.Ref.{now}
 use Rattle.map.specs.Map.{goodMap}
 use Rattle.plain.specs.Call.{ask}
 use Rattle.shadows.specs.Shadows.{Shadows, lengthsFit}
-use Rattle.monitor_base.specs.Locating.{Lies}
 use Rattle.monitor_base.specs.declared.Located.{Located}
 use Rattle.monitor_base.specs.declared.Located.the-variants.{Heap, Stack, Outside}
+use Rattle.monitor_base.proofs.Located.{the-type}
 use Rattle.monitor_base.proofs.CallLaws.{early-good}
-use Rattle.monitor_base.proofs.LocatingLaws.{heap-there, stack-there}
 use Rattle.monitor_read.proofs.AnswerLaws.{answers, refuses}
-use Rattle.monitor_read.proofs.AskingLaws.{ask-heap, ask-stack, ask-out, heap-base, stack-base}
+use Rattle.monitor_read.proofs.AskingLaws.{ask-at, ask-out, there, base-at}
 use borrow.Author.Needs.{needs}
 use Rattle.monitor_read.proofs.asking.ask.Statement.{statement}
 use Rattle.monitor_read.proofs.asking.ask.Tie as tie
+
+-- what the place after the test for neither area knows: the tag of another case
+in-area : (l : Located) → OneOf (0 ∷ (1 ∷ [])) (tagOf the-type l) → l ≡ Outside → ⊥
+in-area (Heap p) o e = let z : _≡_ {A = ℕ} 0 1 = cc in omega arith
+in-area (Stack p) o e = let z : _≡_ {A = ℕ} 0 1 = cc in omega arith
+in-area Outside o e = ⊎-elim (λ x. omega arith) (λ x. omega arith) o
 
 -- the function's entry
 abbrev entry : tie.Else1 → tie.Start
@@ -26,19 +37,6 @@ shadows c = (now (c .args .heap), (now (c .args .primary), now (c .args .seconda
 good : (c : tie.Else1) → (goodMap (entry c .args .map) ≡ true) × (lengthsFit (entry c .args .map) (shadows (entry c)) ≡ true)
 unfolding lengthsFit
 good c = early-good (entry c .args .map) (shadows (entry c)) (sym (c .if1 .left) ∙ c .before .checked .ensures)
-
--- the address lies in the heap, in the stack, in neither
-abbrev lies : tie.After-locate → Located → Type 0
-lies c = let e = entry (c .before) in Lies (e .args .map) (e .args .a .0)
-
-in-heap : (c : tie.After-p) → lies (c .before .before) (Heap (c .p .given .0 .0))
-in-heap c = rw (c .p .given .1) at (c .before .before .locate .ensures)
-
-in-stack : (c : tie.After-p2) → lies (c .before .before) (Stack (c .p2 .given .0 .0))
-in-stack c = rw (c .p2 .given .1) at (c .before .before .locate .ensures)
-
-outside : (c : tie.After-enum-told) → lies (c .before .before) Outside
-outside c = rw (c .enum-told .given .1) at (c .before .before .locate .ensures)
 
 checked-requires : tie.Need-checked-requires
 checked-requires c κs = search needs
@@ -55,42 +53,6 @@ returns c =
 locate-requires : tie.Need-locate-requires
 locate-requires c κs = search needs
 
-enum-known-p : tie.Need-enum-known-p
-enum-known-p c = search needs
-
-read-requires : tie.Need-read-requires
-read-requires c κs =
-    let p = c .before in
-    let e = entry (p .before .before .before) in
-    let g = good (p .before .before .before) in
-    let h = in-heap p in
-    heap-there (e .args .map) (shadows e) (g .0) (g .1) (e .args .a .0) _ (h .0) (h .1)
-
-told-requires : tie.Need-told-requires
-told-requires c κs =
-    let p = c .before .before in
-    let e = entry (p .before .before .before) in
-    let g = good (p .before .before .before) in
-    heap-base (e .args .map) (shadows e) (g .0) (g .1) (c .read .result) _ (c .read .ensures)
-
-enum-known-p-2 : tie.Need-enum-known-p-2
-enum-known-p-2 c = search needs
-
-read-requires-2 : tie.Need-read-requires-2
-read-requires-2 c κs =
-    let p = c .before in
-    let e = entry (p .before .before .before) in
-    let g = good (p .before .before .before) in
-    let h = in-stack p in
-    stack-there (e .args .map) (shadows e) (g .0) (g .1) (e .args .a .0) _ (h .0) (h .1)
-
-told-requires-2 : tie.Need-told-requires-2
-told-requires-2 c κs =
-    let p = c .before .before in
-    let e = entry (p .before .before .before) in
-    let g = good (p .before .before .before) in
-    stack-base (e .args .map) (shadows e) (g .0) (g .1) (c .read2 .result) _ (c .read2 .ensures)
-
 enum-told : tie.Need-enum-told
 enum-told c = search needs
 
@@ -99,29 +61,41 @@ refusal-requires-2 c κs = search needs
 
 returns-2 : tie.Need-returns-2
 returns-2 c =
-    let p = c .before .before .before in
-    let e = entry (p .before .before .before) in
-    let g = good (p .before .before .before) in
-    let h = in-heap p in
-    answers (e .args .map) (ask (e .args .a .0)) (shadows e) (c .told .result) _ (c .told .ensures)
-    (ask-heap (e .args .map) (shadows e) (g .0) (g .1) (e .args .a .0) _ (h .0) (h .1) _ (c .before .read .ensures))
+    let l = c .before .before .before in
+    let e = entry (l .before) in
+    let g = good (l .before) in
+    answers (e .args .map) (ask (e .args .a .0)) (shadows e) (c .refusal2 .result) _ (c .refusal2 .ensures)
+    (ask-out (e .args .map) (shadows e) (g .0) (g .1) (e .args .a .0) (rw (c .before .enum-told .given .1) at (l .locate .ensures)))
+
+reading-requires : tie.Need-reading-requires
+reading-requires c κs =
+    let l = c .before in
+    let e = entry (l .before) in
+    let g = good (l .before) in
+    there (e .args .map) (shadows e) (g .0) (g .1) (e .args .a .0) (l .locate .result) (l .locate .ensures)
+
+origin-requires : tie.Need-origin-requires
+origin-requires c κs = search needs
+
+told-requires : tie.Need-told-requires
+told-requires c κs =
+    let r = c .before in
+    let l = r .before .before in
+    let e = entry (l .before) in
+    let g = good (l .before) in
+    base-at (e .args .map) (shadows e) (g .0) (g .1) (l .locate .result) (r .reading .result) (r .reading .ensures) _ (c .origin .ensures)
 
 returns-3 : tie.Need-returns-3
 returns-3 c =
-    let p = c .before .before .before in
-    let e = entry (p .before .before .before) in
-    let g = good (p .before .before .before) in
-    let h = in-stack p in
-    answers (e .args .map) (ask (e .args .a .0)) (shadows e) (c .told2 .result) _ (c .told2 .ensures)
-    (ask-stack (e .args .map) (shadows e) (g .0) (g .1) (e .args .a .0) _ (h .0) (h .1) _ (c .before .read2 .ensures))
-
-returns-4 : tie.Need-returns-4
-returns-4 c =
-    let k = c .before .before .before .before in
-    let e = entry k in
-    let g = good k in
-    answers (e .args .map) (ask (e .args .a .0)) (shadows e) (c .refusal2 .result) _ (c .refusal2 .ensures)
-    (ask-out (e .args .map) (shadows e) (g .0) (g .1) (e .args .a .0) (outside (c .before)))
+    let o = c .before in
+    let r = o .before in
+    let m = r .before in
+    let l = m .before in
+    let e = entry (l .before) in
+    let g = good (l .before) in
+    answers (e .args .map) (ask (e .args .a .0)) (shadows e) (c .told .result) _ (c .told .ensures)
+    (ask-at (e .args .map) (shadows e) (g .0) (g .1) (e .args .a .0) (l .locate .result) (l .locate .ensures) (in-area _ (m .match .keys2)) _ (r .reading .ensures) _
+    (o .origin .ensures))
 
 pub ask-spec : {M : Type 1} → statement M
 ask-spec =
@@ -131,14 +105,10 @@ ask-spec =
     refusal-requires
     returns
     locate-requires
-    enum-known-p
-    read-requires
-    told-requires
-    enum-known-p-2
-    read-requires-2
-    told-requires-2
     enum-told
     refusal-requires-2
     returns-2
-    returns-3
-    returns-4)
+    reading-requires
+    origin-requires
+    told-requires
+    returns-3)

@@ -1,7 +1,7 @@
 -- `monitor_read::searching::climb_stack` meets its contract. The invariant: the climb from the first position comes to what it comes to from the
 -- present one. The measure is what is left of the stack. Assumes nothing.
 use mathlib.Core.Path.{_≡_, refl, sym, ap, _∙_}
-use Prim.Native.Nat.{ℕ, _+_, _-_, _<_}
+use Prim.Native.Nat.{ℕ, _-_, _<_}
 use native.Mathlib.Omega.{arith}
 use borrow.Author.Needs.{needs}
 use denote.Ref.{now}

@@ -1,5 +1,5 @@
 -- `monitor_read::searching::next` meets its contract: the lower area, and where it holds no block the other. Assumes nothing.
-use mathlib.Core.Path.{_≡_, sym, ap, _∙_}
+use mathlib.Core.Path.{_≡_, sym, _∙_}
 use mathlib.Core.Bool.{true}
 use Prim.Native.Nat.{ℕ, _-_}
 use denote.Ref.{now}

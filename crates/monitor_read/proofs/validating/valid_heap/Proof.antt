@@ -1,9 +1,8 @@
 -- `monitor_read::validating::valid_heap` meets its contract: one arm for each area of the other byte. Assumes nothing.
-use mathlib.Core.Path.{_≡_, sym, ap, _∙_}
+use mathlib.Core.Path.{sym, ap, _∙_}
 use denote.Ref.{now}
 use lib.ListN.{length}
 use Rattle.number.specs.Parts.{at}
-use Rattle.plain.specs.Reading.{Reading}
 use Rattle.shadows.specs.Shadows.{Shadows}
 use Rattle.monitor_base.specs.Locating.{Lies}
 use Rattle.monitor_base.specs.declared.Located.{Located}

@@ -4,7 +4,6 @@ use Rattle.shadows.specs.Shadows.{Shadows}
 use Rattle.monitor_base.specs.Locating.{Lies}
 use Rattle.monitor_base.specs.declared.Located.{Located}
 use Rattle.monitor_base.specs.declared.Located.the-variants.{Heap, Stack, Outside}
-use mathlib.Core.Path.{_∙_}
 use Rattle.monitor_base.proofs.LocatingLaws.{heap-there, stack-there}
 use Rattle.monitor_read.proofs.RangingLaws.{valid-out-heap, valid-out-stack, valid-out-out}
 use borrow.Author.Needs.{needs}
