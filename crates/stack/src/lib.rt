@@ -20,7 +20,6 @@ mod table;
 pub use coding::codes_below;
 use map::Position;
 use plain::Reading;
-pub use table::short_length;
 
 // The reading of a position: bit 1 is to be zero, the code is taken by shift, the written bit by mask.
 pub fn read(primary: &[u8], secondary: &[u8], p: Position) -> Reading
