@@ -67,6 +67,8 @@ int main()
 {
     static uint8_t heap[16], primary[16], secondary[16];
     const struct block_monitor monitor = {{8, 16, 24, 16}, heap, 16, primary, 16, secondary, 16};
+    if (monitor_record_written(&monitor, 24, 4) != BLOCK_MONITOR_ACCEPTED)
+        return 1;
     return monitor_record(&monitor, 16, 4) == BLOCK_MONITOR_ACCEPTED ? 0 : 1;
 }
 END

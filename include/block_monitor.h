@@ -28,7 +28,8 @@ extern "C" {
 
 /*
  * What a call returns: accepted, or why it is refused. A refused call stores zero in every field and alters no shadow byte. The lowest number
- * that holds is returned, but 8 comes before 7. Later numbers may be added: take any that is not 0 for a refusal.
+ * that holds is returned, but 8 comes before 7. Where a number is said to be record's, it is record_written's as well. Later numbers may be
+ * added: take any that is not 0 for a refusal.
  */
 enum block_monitor_number {
     BLOCK_MONITOR_ACCEPTED = 0,
@@ -57,6 +58,10 @@ uint32_t block_monitor_clear(const uint32_t map[4], uint8_t *heap, size_t heap_l
 /* A block begins, heap or stack by its base; no byte of it is written yet. */
 uint32_t block_monitor_record(const uint32_t map[4], uint8_t *heap, size_t heap_length, uint8_t *primary, size_t primary_length,
                               uint8_t *secondary, size_t secondary_length, uint32_t base, uint32_t length, uint32_t fields[4]);
+
+/* The same, but all bytes of the block are written from the start, as those of a static object, which C zeroes before main. */
+uint32_t block_monitor_record_written(const uint32_t map[4], uint8_t *heap, size_t heap_length, uint8_t *primary, size_t primary_length,
+                                      uint8_t *secondary, size_t secondary_length, uint32_t base, uint32_t length, uint32_t fields[4]);
 
 /* The block with this base ends. */
 uint32_t block_monitor_free(const uint32_t map[4], uint8_t *heap, size_t heap_length, uint8_t *primary, size_t primary_length,
@@ -137,6 +142,12 @@ static inline uint32_t monitor_record(const struct block_monitor *monitor, uint3
 {
     uint32_t fields[4];
     return block_monitor_record(BLOCK_MONITOR_LENT(monitor), base, length, fields);
+}
+
+static inline uint32_t monitor_record_written(const struct block_monitor *monitor, uint32_t base, uint32_t length)
+{
+    uint32_t fields[4];
+    return block_monitor_record_written(BLOCK_MONITOR_LENT(monitor), base, length, fields);
 }
 
 static inline uint32_t monitor_free(const struct block_monitor *monitor, uint32_t base)

@@ -22,7 +22,7 @@
 
 void *malloc(size_t size);
 
-enum kind { RECORD = 2, RELEASE, WRITTEN, ASK, VALID, INITIALISED };
+enum kind { RECORD = 2, RELEASE, WRITTEN, ASK, VALID, INITIALISED, RECORD_WRITTEN = 10 };
 
 struct op {
   uint32_t kind, heap, offset, n, from;
@@ -78,6 +78,12 @@ static void record(const struct call *c) {
     __e_acsl_store_block(c->p, c->n);
 }
 
+/* A block that begins written takes two calls here. */
+static void record_written(const struct call *c) {
+  record(c);
+  __e_acsl_initialize(c->p, c->n);
+}
+
 static void release(const struct call *c) {
   if (c->heap)
     rtl_delete_heap(c->p);
@@ -97,6 +103,9 @@ static uint64_t any(const struct call *c) {
   switch (c->kind) {
   case RECORD:
     record(c);
+    return 0;
+  case RECORD_WRITTEN:
+    record_written(c);
     return 0;
   case RELEASE:
     release(c);
@@ -142,6 +151,9 @@ uint64_t bench_measured(const struct list *list, int uniform) {
     else
       EACH(__e_acsl_store_block(c->p, c->n);)
     break;
+  case RECORD_WRITTEN:
+    EACH(record_written(c);)
+    break;
   case RELEASE:
     if (heap)
       EACH(rtl_delete_heap(c->p);)
@@ -174,7 +186,7 @@ static void load(const char *path) {
   read_list(path, &setup);
   make(&setup);
   for (size_t i = 0; i < setup.length; i++)
-    if (setup.calls[i].kind == RECORD) {
+    if (setup.calls[i].kind == RECORD || setup.calls[i].kind == RECORD_WRITTEN) {
       if (live_count == MOST_BLOCKS)
         fail("too many blocks");
       live[live_count] = setup.calls[i].p;

@@ -205,32 +205,38 @@ fn placings(state: &State) -> Vec<Case> {
         ("stack", gap(&state.stack_blocks()), 0),
     ];
     let mut cases = Vec::new();
-    for record in [true, false] {
+    for word in ["record", "record_written", "free"] {
         for (area, (start, end), header) in areas {
             for length in [8, 64, 1024] {
                 let first = start.next_multiple_of(8) + header;
                 let bases = (first..end - header - length).step_by((length + header) as usize);
+                let title = format!("{word} of {}, {area}", thousands(length));
                 let bases: Vec<u32> = bases.take(PLACES).collect();
-                let records: Vec<Call> = bases
-                    .iter()
-                    .map(|&base| Call::Record { base, length })
-                    .collect();
-                let frees: Vec<Call> = bases.iter().map(|&base| Call::Free { base }).collect();
-                cases.push(if record {
-                    let title = format!("record of {}, {area}", thousands(length));
-                    let mut case = Case::new(title, Group::Placing, ROOMY, records);
-                    case.after = frees;
-                    case
-                } else {
-                    let title = format!("free of {}, {area}", thousands(length));
-                    let mut case = Case::new(title, Group::Placing, ROOMY, frees);
-                    case.before = records;
-                    case
-                });
+                cases.push(placing(word, title, &bases, length));
             }
         }
     }
     cases
+}
+
+/// The places taken by one way to record, or given back; what was done is undone untimed.
+fn placing(word: &str, title: String, bases: &[u32], length: u32) -> Case {
+    let each = |call: fn(u32, u32) -> Call| -> Vec<Call> {
+        bases.iter().map(|&base| call(base, length)).collect()
+    };
+    let records = each(|base, length| Call::Record { base, length });
+    let frees = each(|base, _| Call::Free { base });
+    let (before, timed, after) = match word {
+        "record" => (vec![], records, frees),
+        "record_written" => {
+            let written = each(|base, length| Call::RecordWritten { base, length });
+            (vec![], written, frees)
+        }
+        _ => (records, frees, vec![]),
+    };
+    let mut case = Case::new(title, Group::Placing, ROOMY, timed);
+    (case.before, case.after) = (before, after);
+    case
 }
 
 fn searches(state: &State) -> Vec<Case> {

@@ -51,6 +51,7 @@ fn symbol(call: &Call) -> &'static str {
     match call {
         Call::Clear => "block_monitor_clear",
         Call::Record { .. } => "block_monitor_record",
+        Call::RecordWritten { .. } => "block_monitor_record_written",
         Call::Free { .. } => "block_monitor_free",
         Call::Written { .. } => "block_monitor_written",
         Call::Ask { .. } => "block_monitor_ask",
@@ -63,8 +64,8 @@ fn symbol(call: &Call) -> &'static str {
 
 /// Declares the symbols of a build and makes a side of it, with the symbols that it lacks: in their place stand stubs (before.sh).
 macro_rules! build {
-    ($side:ident, $title:literal, $clear:literal, $record:literal, $free:literal, $written:literal, $ask:literal, $valid:literal,
-     $initialised:literal, $next:literal, $audit:literal) => {
+    ($side:ident, $title:literal, $clear:literal, $record:literal, $record_written:literal, $free:literal, $written:literal,
+     $ask:literal, $valid:literal, $initialised:literal, $next:literal, $audit:literal) => {
         pub mod $side {
             use super::*;
 
@@ -75,6 +76,8 @@ macro_rules! build {
                 fn clear(map: *const Four, h: *mut u8, hl: usize, p: *mut u8, pl: usize, s: *mut u8, sl: usize, f: *mut Four) -> u32;
                 #[link_name = $record]
                 fn record(map: *const Four, h: *mut u8, hl: usize, p: *mut u8, pl: usize, s: *mut u8, sl: usize, base: u32, n: u32, f: *mut Four) -> u32;
+                #[link_name = $record_written]
+                fn record_written(map: *const Four, h: *mut u8, hl: usize, p: *mut u8, pl: usize, s: *mut u8, sl: usize, base: u32, n: u32, f: *mut Four) -> u32;
                 #[link_name = $free]
                 fn free(map: *const Four, h: *mut u8, hl: usize, p: *mut u8, pl: usize, s: *mut u8, sl: usize, base: u32, f: *mut Four) -> u32;
                 #[link_name = $written]
@@ -110,6 +113,7 @@ macro_rules! build {
                         match call {
                             Call::Clear => clear(m, h, hl, p, pl, s, sl, f),
                             Call::Record { base, length } => record(m, h, hl, p, pl, s, sl, base, length, f),
+                            Call::RecordWritten { base, length } => record_written(m, h, hl, p, pl, s, sl, base, length, f),
                             Call::Free { base } => free(m, h, hl, p, pl, s, sl, base, f),
                             Call::Written { address, n } => written(m, h, hl, p, pl, s, sl, address, n, f),
                             Call::Ask { address } => ask(m, h, hl, p, pl, s, sl, address, f),
@@ -177,6 +181,7 @@ build!(
     "monitor",
     "block_monitor_clear",
     "block_monitor_record",
+    "block_monitor_record_written",
     "block_monitor_free",
     "block_monitor_written",
     "block_monitor_ask",
@@ -192,6 +197,7 @@ build!(
     "before",
     "before_block_monitor_clear",
     "before_block_monitor_record",
+    "before_block_monitor_record_written",
     "before_block_monitor_free",
     "before_block_monitor_written",
     "before_block_monitor_ask",

@@ -8,6 +8,7 @@ pub enum Calls {
     Initialised(Vec<(u32, u32)>),
     Written(Vec<(u32, u32)>),
     Records(Vec<(u32, u32)>),
+    RecordsWritten(Vec<(u32, u32)>),
     Frees(Vec<u32>),
     Nexts(Vec<u32>),
     Audits(usize),
@@ -34,6 +35,7 @@ impl Calls {
             Call::Initialised { .. } => Calls::Initialised(all.map(both).collect()),
             Call::Written { .. } => Calls::Written(all.map(both).collect()),
             Call::Record { .. } => Calls::Records(all.map(both).collect()),
+            Call::RecordWritten { .. } => Calls::RecordsWritten(all.map(both).collect()),
             Call::Free { .. } => Calls::Frees(all.map(first).collect()),
             Call::Next { .. } => Calls::Nexts(all.map(first).collect()),
             Call::Audit => Calls::Audits(calls.len()),
@@ -68,6 +70,11 @@ impl Calls {
             Calls::Records(list) => {
                 for &(base, length) in list {
                     maker.one(Call::Record { base, length });
+                }
+            }
+            Calls::RecordsWritten(list) => {
+                for &(base, length) in list {
+                    maker.one(Call::RecordWritten { base, length });
                 }
             }
             Calls::Frees(list) => {

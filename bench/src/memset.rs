@@ -97,7 +97,9 @@ fn touched(map: Map, list: &mut PlainTree, call: Call, parts: &mut Vec<Part>) {
             let (_, start) = place(map, address).expect("a search begins in an area");
             add(start, (found - address) as usize);
         }
-        Call::Record { base, length } => placed(map, base, length, add),
+        Call::Record { base, length } | Call::RecordWritten { base, length } => {
+            placed(map, base, length, add)
+        }
         Call::Free { base } => placed(
             map,
             base,

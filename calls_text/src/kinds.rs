@@ -102,6 +102,16 @@ pub const KINDS: &[Kind] = &[
             format!("{heap}, {stack}, {live}, {} of them written", a[3])
         },
     },
+    Kind {
+        number: 10,
+        word: "record_written",
+        fields: &["base", "length"],
+        answers: &[],
+        told: |f, _| {
+            let bytes = count(f[1], "byte");
+            format!("recorded: a block at {} of {bytes}, all written", f[0])
+        },
+    },
 ];
 
 impl Kind {

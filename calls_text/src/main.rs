@@ -47,10 +47,10 @@ fn usage() -> String {
             .map(|field| field.to_uppercase())
             .collect();
         let fields = fields.join(", ");
-        usage += format!("  {:<12} {fields}", kind.word).trim_end();
+        usage += format!("  {:<14} {fields}", kind.word).trim_end();
         usage.push('\n');
     }
-    usage + "  raw          bytes as they are, two hexadecimal digits each\n"
+    usage + "  raw            bytes as they are, two hexadecimal digits each\n"
 }
 
 fn decode(name: &str) -> Result<(), String> {

@@ -5,11 +5,11 @@ pub const REFUSALS: &[(u32, &[&str], &str)] = &[
     (1, &["map"], "the map breaks a rule; the one before stays"),
     (1, &[], "no good map yet"),
     (2, &[], "a shadow's length differs from its area's"),
-    (3, &["record"], "the length is 0"),
+    (3, &["record", "record_written"], "the length is 0"),
     (3, &[], "n is 0"),
     (
         4,
-        &["record"],
+        &["record", "record_written"],
         "base in neither area, or the block or its header does not fit there",
     ),
     (4, &[], "address in neither area"),

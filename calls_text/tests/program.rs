@@ -44,16 +44,18 @@ fn traces() {
 
 /// Inputs with the output that the specification gives for them.
 #[test]
-fn examples_of_the_open_points() {
-    let text = String::from_utf8(bytes("model/tests/data/open-points.txt")).expect("text");
-    let mut runs = 0;
-    for (remark, line, example) in model::notation::examples(&text) {
-        if let Example::Run { input, output } = example {
-            assert_lines(&format!("{remark} {line}"), &piped(&input), &output);
-            runs += 1;
+fn stated_examples() {
+    for (name, least) in [("open-points.txt", 16), ("record-written.txt", 16)] {
+        let text = String::from_utf8(bytes(&format!("model/tests/data/{name}"))).expect("text");
+        let mut runs = 0;
+        for (remark, line, example) in model::notation::examples(&text) {
+            if let Example::Run { input, output } = example {
+                assert_lines(&format!("{remark} {line}"), &piped(&input), &output);
+                runs += 1;
+            }
         }
+        assert!(runs >= least, "only {runs} runs in {name}");
     }
-    assert!(runs > 15, "only {runs} runs in open-points.txt");
 }
 
 #[test]

@@ -68,6 +68,10 @@ fn accepted_lines() {
         meaning("audit", "9 0 2 1 35 6"),
         "2 heap blocks, 1 stack block, 35 live bytes, 6 of them written"
     );
+    assert_eq!(
+        meaning("record_written 8192 3", "10 0"),
+        "recorded: a block at 8192 of 3 bytes, all written"
+    );
 }
 
 #[test]
@@ -76,6 +80,19 @@ fn refused_lines() {
         meaning("record 4128 4", "2 6"),
         "refused by 6: some shadow byte of the place is not zero"
     );
+    for (line, said) in [
+        ("10 3", "the length is 0"),
+        (
+            "10 4",
+            "base in neither area, or the block or its header does not fit there",
+        ),
+        ("10 5", "a heap base must be a multiple of 8"),
+        ("10 6", "some shadow byte of the place is not zero"),
+    ] {
+        let number = &line[3..];
+        let expected = format!("refused by {number}: {said}");
+        assert_eq!(meaning("record_written 4128 4", line), expected);
+    }
     assert_eq!(meaning("ask 4124", "5 7"), "refused by 7: no block there");
     assert_eq!(
         meaning("free 4105", "3 7"),
@@ -115,6 +132,8 @@ fn lines_that_cannot_be_right() {
         ("ask 1", "5 x\n"),
         ("ask 1", "5  7\n"),
         ("ask 1", "5 7\n5 7\n"),
+        ("record_written 8192 3", "2 0\n"),
+        ("record_written 8192 3", "10 0 1\n"),
         ("", "9\n"),
         ("raw 00", ""),
         ("raw 00", "9 1\n"),

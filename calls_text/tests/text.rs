@@ -27,7 +27,7 @@ fn round_trip(file: &[u8]) -> String {
 
 #[test]
 fn each_word_is_its_record() {
-    let file = calls("x", "map 1 2 3 4\nrecord 5 6\nfree 7\nwritten 8 9\nask 10\nvalid 11 12 13\ninitialised 14 15\nnext 16\naudit");
+    let file = calls("x", "map 1 2 3 4\nrecord 5 6\nfree 7\nwritten 8 9\nask 10\nvalid 11 12 13\ninitialised 14 15\nnext 16\naudit\nrecord_written 17 18");
     let mut expected = encode(1, &[1, 2, 3, 4]);
     expected.extend(encode(2, &[5, 6]));
     expected.extend(encode(3, &[7]));
@@ -37,6 +37,7 @@ fn each_word_is_its_record() {
     expected.extend(encode(7, &[14, 15]));
     expected.extend(encode(8, &[16]));
     expected.extend(encode(9, &[]));
+    expected.extend(encode(10, &[17, 18]));
     assert_eq!(file, expected);
 }
 
@@ -60,6 +61,10 @@ fn messages_name_file_and_line() {
         errors("audit\n\nrecord 4104"),
         "x.txt:3: record takes 2 numbers (base, length), got 1"
     );
+    assert_eq!(
+        errors("record_written 8192"),
+        "x.txt:1: record_written takes 2 numbers (base, length), got 1"
+    );
     assert_eq!(errors("free"), "x.txt:1: free takes 1 number (base), got 0");
     assert_eq!(
         errors("audit 1 2"),
@@ -71,7 +76,7 @@ fn messages_name_file_and_line() {
     );
     assert_eq!(
         errors("# x\nrecrod 1 2"),
-        "x.txt:2: unknown word `recrod`; the words are map, record, free, written, ask, valid, initialised, next, audit, raw"
+        "x.txt:2: unknown word `recrod`; the words are map, record, free, written, ask, valid, initialised, next, audit, record_written, raw"
     );
     assert_eq!(
         errors("ask 4294967296"),
@@ -108,7 +113,7 @@ fn every_bad_line_has_its_message() {
 
 #[test]
 fn back_to_text() {
-    let written = "map 4096 64 8192 32\nrecord 4104 20\nfree 4104\nwritten 1 2\nask 3\nvalid 4 5 6\ninitialised 7 8\nnext 9\naudit\n";
+    let written = "map 4096 64 8192 32\nrecord 4104 20\nfree 4104\nwritten 1 2\nask 3\nvalid 4 5 6\ninitialised 7 8\nnext 9\naudit\nrecord_written 10 11\n";
     assert_eq!(text(&calls("x", written)), (written.to_owned(), None));
     assert_eq!(text(&[]), (String::new(), None));
 }
@@ -133,6 +138,11 @@ fn what_does_not_decode_is_named() {
         why(&encode(2, &[1])),
         message("its length is 8, that of record is 12")
     );
+    assert_eq!(
+        why(&encode(10, &[1, 2, 3])),
+        message("its length is 16, that of record_written is 12")
+    );
+    assert_eq!(why(&encode(11, &[1, 2])), message("kind 11 is unknown"));
     assert_eq!(
         why(&[12, 0, 2, 0, 7]),
         message("the file ends after 5 of its 12 bytes")

@@ -28,7 +28,9 @@ const struct block_monitor monitor = {
     .secondary_length = sizeof secondary_shadow,
 };
 
+/* Automatic objects lie below the first, static ones from the second on. */
 static uint32_t stack_top;
+static uint32_t statics;
 
 /* The heap is a row of units, each a header of two words and the room behind it. The monitor leaves the same 8 bytes to the header. */
 struct unit {
@@ -52,6 +54,7 @@ void areas_start(void)
 {
     put_unit(0, HEAP_SIZE, 0);
     stack_top = 0;
+    statics = STACK_SIZE;
 }
 
 uint32_t address_of(const void *pointer)
@@ -110,7 +113,7 @@ void *stack_push(uint32_t length)
 {
     uint32_t place = (stack_top + 3) / 4 * 4;
 
-    if (place > STACK_SIZE || length > STACK_SIZE - place)
+    if (place > statics || length > statics - place)
         return NULL;
     stack_top = place + length;
     return &stack.bytes[place];
@@ -119,4 +122,18 @@ void *stack_push(uint32_t length)
 void stack_pop(const void *pointer)
 {
     stack_top = address_of(pointer) - STACK_START;
+}
+
+/* C has zeroed the area as a whole. */
+void *static_object(uint32_t length)
+{
+    uint32_t place;
+
+    if (length > statics)
+        return NULL;
+    place = (statics - length) / 4 * 4;
+    if (place < stack_top)
+        return NULL;
+    statics = place;
+    return &stack.bytes[place];
 }

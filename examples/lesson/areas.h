@@ -29,4 +29,7 @@ void heap_release(const void *pointer);
 void *stack_push(uint32_t length);
 void stack_pop(const void *pointer);
 
+/* Static objects, before any automatic one: zeroed bytes at the end of the stack area, from a multiple of 4 on. NULL if there is no room. */
+void *static_object(uint32_t length);
+
 #endif

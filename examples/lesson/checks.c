@@ -108,15 +108,27 @@ void check_start(struct place where)
     stop_refused(number);
 }
 
-void check_record(const void *pointer, uint32_t length, struct place where)
+/* Stops unless the number of a recording says accepted. */
+static void must_be_recorded(uint32_t number, uint32_t base, uint32_t length, struct place where)
 {
-    uint32_t base = address_of(pointer);
-    uint32_t number = monitor_record(&monitor, base, length);
-
     if (number == BLOCK_MONITOR_ACCEPTED)
         return;
     print_use("record", length, base, where);
     stop_refused(number);
+}
+
+void check_record(const void *pointer, uint32_t length, struct place where)
+{
+    uint32_t base = address_of(pointer);
+
+    must_be_recorded(monitor_record(&monitor, base, length), base, length, where);
+}
+
+void check_static(const void *pointer, uint32_t length, struct place where)
+{
+    uint32_t base = address_of(pointer);
+
+    must_be_recorded(monitor_record_written(&monitor, base, length), base, length, where);
 }
 
 void check_free(const char *what, const void *pointer, struct place where)

@@ -22,10 +22,13 @@ struct place {
 /* After an allocation, and where an automatic object begins. */
 #define CHECK_RECORD(pointer, length) check_record(pointer, length, HERE)
 
+/* Before a static object is first used: C has zeroed it, so that it may be read at once. */
+#define CHECK_STATIC(pointer, length) check_static(pointer, length, HERE)
+
 /* Before a heap block is given back. */
 #define CHECK_FREE(pointer) check_free("release", pointer, HERE)
 
-/* Where an automatic object ends. */
+/* Where an automatic object ends; for a static one, at the end of the program. */
 #define CHECK_LEAVE(pointer) check_free("end", pointer, HERE)
 
 /* Before a read of n bytes. */
@@ -39,6 +42,7 @@ struct place {
 
 void check_start(struct place where);
 void check_record(const void *pointer, uint32_t length, struct place where);
+void check_static(const void *pointer, uint32_t length, struct place where);
 void check_free(const char *what, const void *pointer, struct place where);
 void check_read(const void *pointer, uint32_t n, const void *from, struct place where);
 void check_write(const void *pointer, uint32_t n, const void *from, struct place where);

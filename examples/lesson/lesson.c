@@ -34,6 +34,9 @@ struct answer {
     uint32_t right;
 };
 
+/* How many letters the learner has typed. A static object: zero before anything is written to it. */
+static uint32_t *letters_typed;
+
 /* A text of the course, on the heap. */
 static char *new_text(const char *constant)
 {
@@ -97,6 +100,13 @@ static char *stem_of(char *text)
     return &text[i];
 }
 
+static void count_letters(uint32_t count)
+{
+    CHECK_READ(letters_typed, sizeof *letters_typed, letters_typed);
+    CHECK_WRITE(letters_typed, sizeof *letters_typed, letters_typed);
+    *letters_typed += count;
+}
+
 /* The learner types into a buffer of LETTERS bytes; what is too long is cut. */
 static void type_in(char *buffer, const char *letters)
 {
@@ -109,6 +119,7 @@ static void type_in(char *buffer, const char *letters)
     }
     CHECK_WRITE(&buffer[i], 1, buffer);
     buffer[i] = 0;
+    count_letters(i);
 }
 
 static void start_answer(struct answer *answer, uint32_t word)
@@ -208,6 +219,8 @@ static void print_result(const uint32_t *points, const uint32_t *tries)
     CHECK_READ(&points[last], sizeof *points, points);
     printf("%" PRIu32 " of %d points in %" PRIu32 " tries, %" PRIu32 " for the last word\n", sum_of(points, WORDS), WORDS * TRIES,
            sum_of(tries, WORDS), points[last]);
+    CHECK_READ(letters_typed, sizeof *letters_typed, letters_typed);
+    printf("%" PRIu32 " letters typed\n", *letters_typed);
 }
 
 int main(void)
@@ -217,6 +230,8 @@ int main(void)
 
     areas_start();
     CHECK_START();
+    letters_typed = static_object(sizeof *letters_typed);
+    CHECK_STATIC(letters_typed, sizeof *letters_typed);
     points = new_numbers(WORDS);
     tries = new_numbers(WORDS);
     for (word = 0; word < WORDS; word++)
@@ -226,6 +241,7 @@ int main(void)
     heap_release(tries);
     CHECK_FREE(points);
     heap_release(points);
+    CHECK_LEAVE(letters_typed);
     CHECK_END();
     return 0;
 }

@@ -29,6 +29,18 @@ extern "C" {
         length: u32,
         f: *mut Four,
     ) -> u32;
+    fn block_monitor_record_written(
+        map: *const Four,
+        h: *mut u8,
+        hl: usize,
+        p: *mut u8,
+        pl: usize,
+        s: *mut u8,
+        sl: usize,
+        base: u32,
+        length: u32,
+        f: *mut Four,
+    ) -> u32;
     fn block_monitor_free(
         map: *const Four,
         h: *mut u8,
@@ -137,6 +149,9 @@ pub fn call(
             Call::Clear => block_monitor_clear(m, h, hl, p, pl, s, sl, f),
             Call::Record { base, length } => {
                 block_monitor_record(m, h, hl, p, pl, s, sl, base, length, f)
+            }
+            Call::RecordWritten { base, length } => {
+                block_monitor_record_written(m, h, hl, p, pl, s, sl, base, length, f)
             }
             Call::Free { base } => block_monitor_free(m, h, hl, p, pl, s, sl, base, f),
             Call::Written { address, n } => {

@@ -14,12 +14,12 @@ pub struct Block {
 }
 
 impl Block {
-    /// A block none of whose bytes is written.
-    pub fn unwritten(base: u32, length: u32) -> Self {
+    /// A block as it begins: all of its bytes are written, or none is.
+    pub fn begun(base: u32, length: u32, written: bool) -> Self {
         Block {
             base,
             length,
-            written: vec![false; length as usize],
+            written: vec![written; length as usize],
         }
     }
 

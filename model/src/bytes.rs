@@ -1,4 +1,4 @@
-//! The byte-level model: all nine calls on any map and any shadow bytes.
+//! The byte-level model: all calls on any map and any shadow bytes.
 //!
 //! It keeps nothing between calls; the shadows hold all of the state.
 
@@ -41,7 +41,8 @@ impl Lent<'_> {
         self.check()?;
         match call {
             Call::Clear => Ok(self.clear()),
-            Call::Record { base, length } => self.record(base, length),
+            Call::Record { base, length } => self.record(base, length, false),
+            Call::RecordWritten { base, length } => self.record(base, length, true),
             Call::Free { base } => self.free(base),
             Call::Written { address, n } => self.written(address, n),
             Call::Ask { address } => self.ask(address),
@@ -84,7 +85,8 @@ impl Lent<'_> {
         NO_FIELDS
     }
 
-    fn record(&mut self, base: u32, length: u32) -> Outcome {
+    /// Both ways to record: a block's bytes begin all written, or none is.
+    fn record(&mut self, base: u32, length: u32, written: bool) -> Outcome {
         let area = placement(self.map, base, length)?;
         let place = self.place(area, base, length);
         let zero = |shadow: &[u8]| shadow[place.clone()].iter().all(|&byte| byte == 0);
@@ -96,24 +98,30 @@ impl Lent<'_> {
             return Err(refusal::TAKEN);
         }
         match area {
-            Area::Heap => self.record_heap(place, length),
-            Area::Stack => self.record_stack(place, length),
+            Area::Heap => self.record_heap(place, length, written),
+            Area::Stack => self.record_stack(place, length, written),
         }
         Ok(NO_FIELDS)
     }
 
-    fn record_heap(&mut self, place: Range<usize>, length: u32) {
+    fn record_heap(&mut self, place: Range<usize>, length: u32, written: bool) {
         put(self.heap, place.start + 4, length);
-        let mut w = 1;
+        let mut offset = 0;
         for segment in (place.start + EIGHT..place.end).step_by(EIGHT) {
-            put(self.heap, segment, w);
-            w += 8;
+            put(self.heap, segment, offset + 1);
+            if written {
+                // The last segment may have fewer bytes than bits.
+                let past = 8 - (length - offset).min(8);
+                self.heap[segment + 4] = 0xff >> past;
+            }
+            offset += 8;
         }
     }
 
-    fn record_stack(&mut self, place: Range<usize>, length: u32) {
+    fn record_stack(&mut self, place: Range<usize>, length: u32, written: bool) {
         for (offset, position) in place.clone().enumerate() {
-            self.primary[position] = stack_code(length, offset as u32) << 2;
+            let code = stack_code(length, offset as u32);
+            self.primary[position] = code << 2 | u8::from(written);
         }
         if length <= LONGEST_SHORT {
             return;

@@ -1,4 +1,4 @@
-//! The nine calls, their answers, and the numbers of refusal.
+//! The calls, their answers, and the numbers of refusal.
 
 /// The numbers of refusal, in the order in which the lowest wins.
 pub mod refusal {
@@ -19,6 +19,7 @@ pub mod refusal {
 pub enum Call {
     Clear,
     Record { base: u32, length: u32 },
+    RecordWritten { base: u32, length: u32 },
     Free { base: u32 },
     Written { address: u32, n: u32 },
     Ask { address: u32 },
@@ -32,7 +33,8 @@ impl Call {
     /// How many answer fields the call has when accepted.
     pub fn answer_fields(self) -> usize {
         match self {
-            Call::Clear | Call::Record { .. } | Call::Free { .. } | Call::Written { .. } => 0,
+            Call::Clear | Call::Record { .. } | Call::RecordWritten { .. } => 0,
+            Call::Free { .. } | Call::Written { .. } => 0,
             Call::Valid { .. } | Call::Initialised { .. } => 1,
             Call::Next { .. } => 2,
             Call::Ask { .. } | Call::Audit => 4,
@@ -56,6 +58,7 @@ impl Call {
             Call::Initialised { address, n } => (7, vec![address, n]),
             Call::Next { address } => (8, vec![address]),
             Call::Audit => (9, vec![]),
+            Call::RecordWritten { base, length } => (10, vec![base, length]),
         })
     }
 
@@ -70,6 +73,7 @@ impl Call {
             (7, &[address, n]) => Call::Initialised { address, n },
             (8, &[address]) => Call::Next { address },
             (9, &[]) => Call::Audit,
+            (10, &[base, length]) => Call::RecordWritten { base, length },
             _ => return None,
         })
     }

@@ -67,7 +67,7 @@ pub fn edge_map(random: &mut Random) -> Map {
     edge
 }
 
-/// Any of the nine calls, refused ones included; blocks are the live ones.
+/// Any of the calls, refused ones included; blocks are the live ones.
 pub fn call(random: &mut Random, map: Map, blocks: &[Block]) -> Call {
     match random.below(100) {
         0 => Call::Clear,
@@ -96,7 +96,8 @@ pub fn call(random: &mut Random, map: Map, blocks: &[Block]) -> Call {
     }
 }
 
-/// A record, mostly where a block could stand, with lengths around every step.
+/// Either way to record, mostly where a block could stand, with lengths around
+/// every step.
 pub fn record(random: &mut Random, map: Map, blocks: &[Block]) -> Call {
     let base = match random.below(10) {
         0..=3 => map.heap_start + 8 * random.between(0, map.heap_size / 8 - 1),
@@ -117,7 +118,11 @@ pub fn record(random: &mut Random, map: Map, blocks: &[Block]) -> Call {
         12..=17 => random.between(9, 25),
         _ => random.between(1, map.heap_size),
     };
-    Call::Record { base, length }
+    if random.once_in(3) {
+        Call::RecordWritten { base, length }
+    } else {
+        Call::Record { base, length }
+    }
 }
 
 fn valid(random: &mut Random, map: Map, blocks: &[Block]) -> Call {

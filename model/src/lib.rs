@@ -7,14 +7,14 @@
 //! and the image of the list must be the bytes.
 //!
 //! - [`map`]: the map, its rules, and the two areas, in whole numbers.
-//! - [`call`]: the nine calls, their answers and the numbers of refusal.
+//! - [`call`]: the calls, their answers and the numbers of refusal.
 //! - [`block`]: a live block, its footprint, and where a block may be placed.
 //! - [`plain`]: the plain list, a vector of blocks in address order.
 //! - [`plain_btree`]: the same list on a `BTreeMap`, a peer for timing.
 //! - [`image`]: the shadow bytes that the two layouts give for a list.
 //! - [`reading`]: what one address reads as, on any shadow bytes.
 //! - [`decode`]: the one list that shadow bytes could be the image of.
-//! - [`bytes`]: all nine calls on any map and any shadow bytes.
+//! - [`bytes`]: all calls on any map and any shadow bytes.
 //! - [`program`]: the calls program, run on a plain list.
 //! - [`notation`]: the one-line notation of the example files.
 //! - [`samples`]: the samples program, which answers lines of that notation.

@@ -185,6 +185,7 @@ fn call_of(text: &str) -> Option<Call> {
         "initialised",
         "next",
         "audit",
+        "record_written",
     ];
     match names.iter().position(|&known| known == name) {
         Some(index) => Call::from_record(index as u16 + 2, &fields),

@@ -58,7 +58,8 @@ impl PlainList {
                 self.blocks.clear();
                 Ok(NO_FIELDS)
             }
-            Call::Record { base, length } => self.record(base, length),
+            Call::Record { base, length } => self.record(base, length, false),
+            Call::RecordWritten { base, length } => self.record(base, length, true),
             Call::Free { base } => self.free(base),
             Call::Written { address, n } => self.written(address, n),
             Call::Ask { address } => self.ask(address),
@@ -69,7 +70,8 @@ impl PlainList {
         }
     }
 
-    fn record(&mut self, base: u32, length: u32) -> Outcome {
+    /// Both ways to record: a block's bytes begin all written, or none is.
+    fn record(&mut self, base: u32, length: u32, written: bool) -> Outcome {
         let area = placement(self.map, base, length)?;
         let place = footprint(area, base, length);
         let taken = self.blocks.iter().any(|block| {
@@ -80,7 +82,8 @@ impl PlainList {
             return Err(refusal::TAKEN);
         }
         let index = self.blocks.partition_point(|block| block.base < base);
-        self.blocks.insert(index, Block::unwritten(base, length));
+        let block = Block::begun(base, length, written);
+        self.blocks.insert(index, block);
         Ok(NO_FIELDS)
     }
 

@@ -39,7 +39,8 @@ impl PlainTree {
                 self.blocks.clear();
                 Ok(NO_FIELDS)
             }
-            Call::Record { base, length } => self.record(base, length),
+            Call::Record { base, length } => self.record(base, length, false),
+            Call::RecordWritten { base, length } => self.record(base, length, true),
             Call::Free { base } => self.free(base),
             Call::Written { address, n } => self.written(address, n),
             Call::Ask { address } => self.ask(address),
@@ -50,7 +51,8 @@ impl PlainTree {
         }
     }
 
-    fn record(&mut self, base: u32, length: u32) -> Outcome {
+    /// Both ways to record: a block's bytes begin all written, or none is.
+    fn record(&mut self, base: u32, length: u32, written: bool) -> Outcome {
         let area = placement(self.map, base, length)?;
         let place = footprint(area, base, length);
         // Footprints are disjoint and in base order, so only neighbours can meet.
@@ -63,7 +65,8 @@ impl PlainTree {
         if taken {
             return Err(refusal::TAKEN);
         }
-        self.blocks.insert(base, Block::unwritten(base, length));
+        let block = Block::begun(base, length, written);
+        self.blocks.insert(base, block);
         Ok(NO_FIELDS)
     }
 

@@ -41,3 +41,8 @@ fn document_01() {
 fn odd_bytes() {
     assert_eq!(check("odd-bytes.txt"), 49);
 }
+
+#[test]
+fn record_written() {
+    assert_eq!(check("record-written.txt"), 85);
+}

@@ -26,11 +26,15 @@ fn after_map(more: &[u8]) -> String {
 fn the_bytes_of_a_record() {
     assert_eq!(encode(9, &[]), [4, 0, 9, 0]);
     assert_eq!(encode(3, &[4104]), [8, 0, 3, 0, 8, 16, 0, 0]);
+    assert_eq!(
+        encode(10, &[4104, 9]),
+        [12, 0, 10, 0, 8, 16, 0, 0, 9, 0, 0, 0]
+    );
 }
 
 #[test]
 fn lengths_are_those_of_the_kinds() {
-    let lengths = [20, 12, 8, 12, 8, 16, 12, 8, 4];
+    let lengths = [20, 12, 8, 12, 8, 16, 12, 8, 4, 12];
     for (kind, right) in (1u16..).zip(lengths) {
         for length in 0..40u16 {
             let mut record = length.to_le_bytes().to_vec();
@@ -47,9 +51,12 @@ fn lengths_are_those_of_the_kinds() {
 
 #[test]
 fn a_cut_record_prints_nine_alone() {
-    let record = encode(2, &[4104, 20]);
-    for left in 1..record.len() {
-        assert_eq!(after_map(&record[..left]), "1 0\n9\n");
+    for kind in [2, 10] {
+        let record = encode(kind, &[4104, 20]);
+        for left in 1..record.len() {
+            assert_eq!(after_map(&record[..left]), "1 0\n9\n");
+        }
+        assert_eq!(after_map(&record), format!("1 0\n{kind} 0\n"));
     }
     assert_eq!(after_map(&[]), "1 0\n");
     assert_eq!(text(&[]), "");
@@ -59,9 +66,12 @@ fn a_cut_record_prints_nine_alone() {
 fn nothing_is_read_after_nine() {
     for bad in [
         encode(0, &[]),
-        encode(10, &[4104, 1]),
+        encode(11, &[4104, 1]),
         encode(258, &[4104, 8]),
+        encode(266, &[4104, 8]),
         encode(2, &[4104]),
+        encode(10, &[4104]),
+        encode(10, &[4104, 8, 0]),
         encode(9, &[0]),
         vec![4, 1, 9, 0],
         vec![0, 0, 9, 0],

@@ -118,7 +118,9 @@ fn changes_stay_inside(map: Map, bytes: &Shadows, call: Call) {
             let mut primary = bytes.primary.iter().zip(&shadows.primary);
             assert!(primary.all(|(before, after)| before | 1 == after | 1));
         }
-        Call::Record { base, length } if answer.number == 0 => {
+        Call::Record { base, length } | Call::RecordWritten { base, length }
+            if answer.number == 0 =>
+        {
             let free = on(map, &mut shadows, Call::Free { base });
             assert_eq!(free.number, 0, "{length}");
             assert!(shadows == *bytes, "a recorded place was not zero before");

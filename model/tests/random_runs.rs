@@ -12,7 +12,7 @@ use model::plain_btree::PlainTree;
 use model::random::Random;
 
 /// How often each call met each number, so that a run can show what it tried.
-type Met = [[u32; 9]; 9];
+type Met = [[u32; 9]; 10];
 
 fn index(call: Call) -> usize {
     call.record_fields()
@@ -49,7 +49,7 @@ fn crowded_areas() {
         run(&mut random, map, 200, &mut met);
     }
     // Every number that a list can give was met by every call that can give it.
-    let given: [&[usize]; 9] = [
+    let given: [&[usize]; 10] = [
         &[0],
         &[0, 3, 4, 5, 6],
         &[0, 4, 7],
@@ -59,6 +59,7 @@ fn crowded_areas() {
         &[0, 3],
         &[0, 7],
         &[0],
+        &[0, 3, 4, 5, 6],
     ];
     for (kind, numbers) in given.iter().enumerate() {
         for (number, &count) in met[kind].iter().enumerate() {
@@ -108,12 +109,18 @@ fn a_full_area_of_the_smallest_blocks() {
     let heap = (0..8191).map(|i| map.heap_start + 8 + 16 * i);
     let stack = (0..65_536).map(|i| map.stack_start + i);
     for base in heap.chain(stack) {
-        let call = Call::Record { base, length: 1 };
+        let length = 1;
+        // Every other stack block begins written.
+        let call = if base < map.heap_start && base % 2 == 0 {
+            Call::RecordWritten { base, length }
+        } else {
+            Call::Record { base, length }
+        };
         assert_eq!(tree.step(call).number, 0);
         assert_eq!(on(map, &mut shadows, call).number, 0);
     }
     assert!(image(map, &tree.listed()) == shadows);
     let answer = on(map, &mut shadows, Call::Audit);
     assert_eq!(answer, tree.step(Call::Audit));
-    assert_eq!(answer.fields, [8191, 65_536, 73_727, 0]);
+    assert_eq!(answer.fields, [8191, 65_536, 73_727, 32_768]);
 }

@@ -30,10 +30,6 @@ impl Both {
         assert_eq!(image, self.shadows, "{call:?}");
         answer
     }
-
-    fn record(&mut self, base: u32, length: u32) -> u32 {
-        self.step(Call::Record { base, length }).number
-    }
 }
 
 #[test]
@@ -58,21 +54,42 @@ fn worked_example_call_by_call() {
 
 #[test]
 fn every_block_alone_on_every_address() {
-    let map = EXAMPLE_MAP;
     for base in (4096..4160).chain(8192..8224) {
         for length in 0..66 {
             let mut both = Both::new();
-            if both.record(base, length) != 0 {
+            if both.step(Call::Record { base, length }).number != 0 {
                 continue;
             }
             let n = length;
             both.step(Call::Written { address: base, n });
-            for address in (4090..4170).chain(8185..8230) {
-                both.step(Call::Ask { address });
+            whole_life(&mut both, base);
+        }
+    }
+}
+
+/// From the recording on: what every address reads as, the totals, the end.
+fn whole_life(both: &mut Both, base: u32) {
+    for address in (4090..4170).chain(8185..8230) {
+        both.step(Call::Ask { address });
+    }
+    both.step(Call::Audit);
+    both.step(Call::Free { base });
+    assert_eq!(both.shadows, Shadows::cleared(EXAMPLE_MAP));
+}
+
+#[test]
+fn every_block_that_begins_written_alone_on_every_address() {
+    for base in (4096..4160).chain(8192..8224) {
+        for length in 0..66 {
+            let mut both = Both::new();
+            let answer = both.step(Call::RecordWritten { base, length });
+            assert_eq!(answer, Both::new().step(Call::Record { base, length }));
+            if answer.number != 0 {
+                continue;
             }
-            both.step(Call::Audit);
-            both.step(Call::Free { base });
-            assert_eq!(both.shadows, Shadows::cleared(map));
+            let [.., live, written] = both.step(Call::Audit).fields;
+            assert_eq!([live, written], [length, length], "{base} {length}");
+            whole_life(&mut both, base);
         }
     }
 }

@@ -19,12 +19,13 @@ use model::reading::View;
 use model::samples::{answered, LONGEST_LINE};
 
 /// The files of tests/data whose right-hand sides are stated.
-const STATED: [&str; 5] = [
+const STATED: [&str; 6] = [
     "document-01.txt",
     "open-points.txt",
     "damage.txt",
     "near-damage.txt",
     "odd-bytes.txt",
+    "record-written.txt",
 ];
 
 fn stored(name: &str) -> String {
@@ -110,10 +111,12 @@ fn table_1_is_stored_in_both_directions() {
     let sides = right_hand_sides();
     let rows = table1();
     for length in 1..=8 {
-        let bytes = rows.iter().filter(|row| row.1 == length);
-        let bytes: Vec<String> = bytes.map(|row| (4 * row.0).to_string()).collect();
-        let stated = format!("0 then pri@8={}", bytes.join(","));
-        assert_eq!(sides[&format!("on: : record 8200 {length}")], stated);
+        for (word, mark) in [("record", 0), ("record_written", 1)] {
+            let bytes = rows.iter().filter(|row| row.1 == length);
+            let bytes: Vec<String> = bytes.map(|row| (4 * row.0 + mark).to_string()).collect();
+            let stated = format!("0 then pri@8={}", bytes.join(","));
+            assert_eq!(sides[&format!("on: : {word} 8200 {length}")], stated);
+        }
     }
     for (code, length, offset) in rows {
         let (position, byte, address) = (8 + offset, 4 * code, 8200 + offset);

@@ -35,6 +35,11 @@ fn codes_in_the_primary_shadow() {
             (0, [base, length, offset, 1])
         );
         assert!(shadows.secondary.iter().all(|&byte| byte == 0));
+        let mut begun = Shadows::cleared(EXAMPLE_MAP);
+        let call = Call::RecordWritten { base, length };
+        on(EXAMPLE_MAP, &mut begun, call);
+        assert_eq!(begun.primary[8 + offset as usize], 4 * code + 1);
+        assert!(begun.secondary.iter().all(|&byte| byte == 0));
     }
 }
 

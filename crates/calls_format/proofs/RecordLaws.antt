@@ -69,11 +69,11 @@ module _ {l : List ℕ} {k n : ℕ} (h : Headed l k n) where
 
 -- ---- a decoded request has its record's kind and length
 
--- the kinds end at 9
-pub no-kind : (k : ℕ) → k ≢ 1 → k ≢ 2 → k ≢ 3 → k ≢ 4 → k ≢ 5 → k ≢ 6 → k ≢ 7 → k ≢ 8 → k ≢ 9 → fieldsOf k ≡ none
+-- the kinds end at 10
+pub no-kind : (k : ℕ) → k ≢ 1 → k ≢ 2 → k ≢ 3 → k ≢ 4 → k ≢ 5 → k ≢ 6 → k ≢ 7 → k ≢ 8 → k ≢ 9 → k ≢ 10 → fieldsOf k ≡ none
 unfolding fieldsOf
-no-kind k a b c d e f g h i =
-    rw (ne-eqb k 1 a, ne-eqb k 2 b, ne-eqb k 3 c, ne-eqb k 4 d, ne-eqb k 5 e, ne-eqb k 6 f, ne-eqb k 7 g, ne-eqb k 8 h, ne-eqb k 9 i)
+no-kind k a b c d e f g h i j =
+    rw (ne-eqb k 1 a, ne-eqb k 2 b, ne-eqb k 3 c, ne-eqb k 4 d, ne-eqb k 5 e, ne-eqb k 6 f, ne-eqb k 7 g, ne-eqb k 8 h, ne-eqb k 9 i, ne-eqb k 10 j)
 
 kind-back : (k n : ℕ) (l : List ℕ) → fieldsOf k ≡ some n → kindOf (requestOf k l) ≡ k
 unfolding fieldsOf requestOf
@@ -87,10 +87,11 @@ kind-back (suc (suc (suc (suc (suc (suc zero)))))) n l e = refl
 kind-back (suc (suc (suc (suc (suc (suc (suc zero))))))) n l e = refl
 kind-back (suc (suc (suc (suc (suc (suc (suc (suc zero)))))))) n l e = refl
 kind-back (suc (suc (suc (suc (suc (suc (suc (suc (suc zero))))))))) n l e = refl
-kind-back (suc (suc (suc (suc (suc (suc (suc (suc (suc (suc k)))))))))) n l e =
-    let k′ : ℕ = suc (suc (suc (suc (suc (suc (suc (suc (suc (suc k))))))))) in
+kind-back (suc (suc (suc (suc (suc (suc (suc (suc (suc (suc zero)))))))))) n l e = refl
+kind-back (suc (suc (suc (suc (suc (suc (suc (suc (suc (suc (suc k))))))))))) n l e =
+    let k′ : ℕ = suc (suc (suc (suc (suc (suc (suc (suc (suc (suc (suc k)))))))))) in
     let u : fieldsOf k′ ≡ none =
-    no-kind k′ (omega arith) (omega arith) (omega arith) (omega arith) (omega arith) (omega arith) (omega arith) (omega arith) (omega arith) in
+    no-kind k′ (omega arith) (omega arith) (omega arith) (omega arith) (omega arith) (omega arith) (omega arith) (omega arith) (omega arith) (omega arith) in
     let z : _≡_ {A = ℕ} 0 1 = cc in
     absurd (omega arith)
 
@@ -133,10 +134,11 @@ longest-holds (suc (suc (suc (suc (suc (suc zero)))))) = omega arith
 longest-holds (suc (suc (suc (suc (suc (suc (suc zero))))))) = omega arith
 longest-holds (suc (suc (suc (suc (suc (suc (suc (suc zero)))))))) = omega arith
 longest-holds (suc (suc (suc (suc (suc (suc (suc (suc (suc zero))))))))) = omega arith
-longest-holds (suc (suc (suc (suc (suc (suc (suc (suc (suc (suc k)))))))))) =
-    let k′ : ℕ = suc (suc (suc (suc (suc (suc (suc (suc (suc (suc k))))))))) in
+longest-holds (suc (suc (suc (suc (suc (suc (suc (suc (suc (suc zero)))))))))) = omega arith
+longest-holds (suc (suc (suc (suc (suc (suc (suc (suc (suc (suc (suc k))))))))))) =
+    let k′ : ℕ = suc (suc (suc (suc (suc (suc (suc (suc (suc (suc (suc k)))))))))) in
     let u : fieldsOf k′ ≡ none =
-    no-kind k′ (omega arith) (omega arith) (omega arith) (omega arith) (omega arith) (omega arith) (omega arith) (omega arith) (omega arith) in
+    no-kind k′ (omega arith) (omega arith) (omega arith) (omega arith) (omega arith) (omega arith) (omega arith) (omega arith) (omega arith) (omega arith) in
     rw u (omega arith)
 
 module _ (l m : List ℕ) (h : longest ≤ length l) where

@@ -1,7 +1,8 @@
 -- What the code's requests stand for, and the kind and length that a request's record has. Assumes nothing.
+use mathlib.Core.Bool.{true, false}
 use mathlib.Core.Option.{Option, none, some}
 use Prim.Native.Nat.{ℕ}
-use Rattle.plain.specs.Call.{Call, clear, record-block, free, written, ask, valid, initialised, next, audit}
+use Rattle.plain.specs.Call.{Call, clear, begin, free, written, ask, valid, initialised, next, audit}
 use Rattle.monitor_base.specs.Answers.{callOf}
 use Rattle.calls_format.specs.declared.records.Request as code
 use Rattle.calls_format.specs.declared.records.Request.the-variants as case
@@ -21,7 +22,8 @@ decodedOf decoded.Undecodable = none
 -- the kind of a call; clear has none of its own
 abbrev pub callKind : Call → ℕ
 callKind clear = 0
-callKind (record-block b l) = 2
+callKind (begin false b l) = 2
+callKind (begin true b l) = 10
 callKind (free x) = 3
 callKind (written a n) = 4
 callKind (ask a) = 5

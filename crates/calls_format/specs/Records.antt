@@ -37,7 +37,8 @@ fieldsOf k =
     (cond (eqb k 6) (some 3)
     (cond (eqb k 7) (some 2)
     (cond (eqb k 8) (some 1)
-    (cond (eqb k 9) (some 0) none))))))))
+    (cond (eqb k 9) (some 0)
+    (cond (eqb k 10) (some 2) none)))))))))
 
 -- what a record of a known kind asks for
 unfoldable pub requestOf : (kind : ℕ) → List ℕ → Request
@@ -50,7 +51,8 @@ requestOf k l =
     (cond (eqb k 6) (call (plain.valid (field l 0) (field l 1) (field l 2)))
     (cond (eqb k 7) (call (plain.initialised (field l 0) (field l 1)))
     (cond (eqb k 8) (call (plain.next (field l 0)))
-    (call plain.audit))))))))
+    (cond (eqb k 10) (call (plain.record-written (field l 0) (field l 1)))
+    (call plain.audit)))))))))
 
 -- the length that a record of so many fields has
 abbrev pub recordLength : (fields : ℕ) → ℕ

@@ -44,7 +44,7 @@ fn record_length(kind: u32) -> usize
     match kind {
         1 => 20,
         6 => 16,
-        2 | 4 | 7 => 12,
+        2 | 4 | 7 | 10 => 12,
         3 | 5 | 8 => 8,
         9 => 4,
         _ => 0,
@@ -70,6 +70,7 @@ fn request_of(s: &[u8], kind: u32) -> Request
         6 => Request::Call(Call::Valid(Address(field(s, 0)), field(s, 1), Address(field(s, 2)))),
         7 => Request::Call(Call::Initialised(Address(field(s, 0)), field(s, 1))),
         8 => Request::Call(Call::Next(Address(field(s, 0)))),
+        10 => Request::Call(Call::RecordWritten(Address(field(s, 0)), field(s, 1))),
         _ => Request::Call(Call::Audit),
     }
 }
@@ -102,6 +103,7 @@ fn call_kind(c: Call) -> u32
     match c {
         Call::Clear => 0,
         Call::Record(_, _) => 2,
+        Call::RecordWritten(_, _) => 10,
         Call::Free(_) => 3,
         Call::Written(_, _) => 4,
         Call::Ask(_) => 5,

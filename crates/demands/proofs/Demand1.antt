@@ -15,7 +15,7 @@ use Rattle.plain.specs.Areas.{mapRules}
 use Rattle.plain.specs.Reading.{Reading, nothing, block, damaged, Tally, tally}
 use Rattle.plain.specs.Rules.{Rules}
 use Rattle.plain.specs.Ops.{Ops}
-use Rattle.plain.specs.Call.{Call, clear, record-block, free, written, ask, valid, initialised, next, audit, Answer, number, refusal, Refusal, firstOf, unless}
+use Rattle.plain.specs.Call.{Call, clear, begin, free, written, ask, valid, initialised, next, audit, Answer, number, refusal, Refusal, firstOf, unless}
 use Rattle.plain.specs.ShadowCalls.{askAnswer, nextAnswer, auditAnswer, reading, search, shadowsAfter, shadowAnswer}
 use Rattle.shadows.specs.Shadows.{Shadows, shadowOps}
 use Rattle.monitor_base.specs.Calls.{refusals, call}
@@ -24,7 +24,7 @@ use Rattle.demands.specs.Demand1.{NoneHolds, RefusedAltersNothing, First
 -- what a call answers where it is not refused has number 0
 accepted-0 : {S : Type 0} (R : Rules) (O : Ops S) (c : Call) (s : S) → number (shadowAnswer R O c s) ≡ 0
 accepted-0 R O clear s = refl
-accepted-0 R O (record-block b l) s = refl
+accepted-0 R O (begin w b l) s = refl
 accepted-0 R O (free x) s = refl
 accepted-0 R O (written a n) s = refl
 accepted-0 R O (ask a) s = go (reading R O s a)
@@ -95,7 +95,7 @@ none-first (r ∷ rs) h e = go (test (r .1)) (none-first rs (h .1))
 
 named : (m : Map) (c : Call) (s : Shadows) → Named (refusals m c s)
 named m clear s = (omega arith, (omega arith, tt))
-named m (record-block b l) s = (omega arith, (omega arith, (omega arith, (omega arith, (omega arith, (omega arith, tt))))))
+named m (begin w b l) s = (omega arith, (omega arith, (omega arith, (omega arith, (omega arith, (omega arith, tt))))))
 named m (free x) s = (omega arith, (omega arith, (omega arith, (omega arith, (omega arith, tt)))))
 named m (written a n) s = (omega arith, (omega arith, (omega arith, (omega arith, (omega arith, (omega arith, tt))))))
 named m (ask a) s = (omega arith, (omega arith, (omega arith, (omega arith, (omega arith, tt)))))
@@ -172,7 +172,7 @@ in-order (r ∷ rs) e = let k = and-true (allGo (r .0) rs) (inOrder rs) e in (al
 tried-in-order : (m : Map) (c : Call) (s : Shadows) → inOrder (refusals m c s) ≡ true
 unfolding inOrder allGo goes
 tried-in-order m clear s = refl
-tried-in-order m (record-block b l) s = refl
+tried-in-order m (begin w b l) s = refl
 tried-in-order m (free x) s = refl
 tried-in-order m (written a n) s = refl
 tried-in-order m (ask a) s = refl

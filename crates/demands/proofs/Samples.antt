@@ -1,4 +1,4 @@
--- The marked samples hold: computed over the whole table. Assumes nothing.
+-- The samples hold: computed over the three tables. Assumes nothing.
 use mathlib.Core.Path.{refl}
 use Rattle.number.specs.Little.{byteOf, word}
 use Rattle.number.specs.Bits.{bitOf, withBit, ofBits, ones}
@@ -7,12 +7,12 @@ use Rattle.map.specs.Map.{goodArea, apart, goodMap}
 use Rattle.plain.specs.Areas.{segments}
 use Rattle.plain.specs.Blocks.{total}
 use Rattle.plain.specs.Layer.{layer}
-use Rattle.plain.specs.Ops.{markRange, readAny}
+use Rattle.plain.specs.Ops.{markRange, rangeMarked, readAny}
 use Rattle.plain.specs.ShadowCalls.{climb}
 use Rattle.heap_layout.specs.Image.{cellByte, covers, own, heapByte}
 use Rattle.heap_layout.specs.Reading.{heapReading}
 use Rattle.heap_layout.specs.Walk.{agree, matches, marksAt, heapWalk}
-use Rattle.heap_layout.specs.Ops.{placeLength, heapVacant, heapStamp, heapErase, heapMark}
+use Rattle.heap_layout.specs.Ops.{placeLength, heapVacant, heapStamp, heapErase, heapMark, heapMarked}
 use Rattle.stack_layout.specs.Code.{shortCode, pieceOf, codeOf, pieceByte, primaryOf, secondaryOf, lengthFrom, shortLength, shortOffset}
 use Rattle.stack_layout.specs.Image.{primaryOwn, secondaryOwn}
 use Rattle.stack_layout.specs.Reading.{fitted, badPiece, longReading, codeReading, stackReading}
@@ -20,8 +20,8 @@ use Rattle.stack_layout.specs.Walk.{isClear, isByte, lengthAt, stackWalk}
 use Rattle.stack_layout.specs.Ops.{stackVacant, stackStamp}
 use Rattle.shadows.specs.Shadows.{lengthsFit}
 use Rattle.monitor_base.specs.Calls.{call}
-use Rattle.demands.specs.Samples.{sameBytes, runHolds, allHold, table, edges, SamplesHold}
+use Rattle.demands.specs.Samples.{sameBytes, runHolds, allHold, table, edges, begunWritten, SamplesHold}
 
 pub samples-hold : SamplesHold
-unfolding byteOf word bitOf withBit ofBits ones tab zeros over goodArea apart goodMap segments total layer markRange readAny climb cellByte covers own heapByte heapReading agree matches marksAt heapWalk placeLength heapVacant heapStamp heapErase heapMark shortCode pieceOf codeOf pieceByte primaryOf secondaryOf lengthFrom shortLength shortOffset primaryOwn secondaryOwn fitted badPiece longReading codeReading stackReading isClear isByte lengthAt stackWalk stackVacant stackStamp lengthsFit call sameBytes runHolds allHold table edges
-samples-hold = (refl, refl)
+unfolding byteOf word bitOf withBit ofBits ones tab zeros over goodArea apart goodMap segments total layer markRange rangeMarked readAny climb cellByte covers own heapByte heapReading agree matches marksAt heapWalk placeLength heapVacant heapStamp heapErase heapMark heapMarked shortCode pieceOf codeOf pieceByte primaryOf secondaryOf lengthFrom shortLength shortOffset primaryOwn secondaryOwn fitted badPiece longReading codeReading stackReading isClear isByte lengthAt stackWalk stackVacant stackStamp lengthsFit call sameBytes runHolds allHold table edges begunWritten
+samples-hold = (refl, refl, refl)

@@ -1,4 +1,5 @@
--- The marked samples of document 01, and its worked example, as one table. Assumes nothing.
+-- Tables of samples: those that document 01 marks, with its worked example; the edges of what map and arguments decide; blocks that begin
+-- written. Assumes nothing.
 use mathlib.Core.Path.{_≡_}
 use mathlib.Core.Bool.{Bool, true, false, _&&_}
 use mathlib.Core.List.{List, [], _∷_, _++_}
@@ -6,7 +7,7 @@ use Prim.Native.Nat.{ℕ, suc, _*_}
 use lib.Dec.{eqb}
 use Rattle.number.specs.Parts.{at}
 use Rattle.map.specs.declared.Map.{Map}
-use Rattle.plain.specs.Call.{Call, clear, record-block, free, written, ask, valid, initialised, next, audit, Answer, answer, refusal, done}
+use Rattle.plain.specs.Call.{Call, clear, record-block, record-written, free, written, ask, valid, initialised, next, audit, Answer, answer, refusal, done}
 use Rattle.shadows.specs.Shadows.{Shadows, zeroShadows}
 use Rattle.monitor_base.specs.Calls.{call}
 
@@ -150,6 +151,54 @@ edges =
     ∷ one audit (answer 0 0 0 0 0)
     ∷ []
 
+-- ---- blocks whose bytes all count as written from the start: how a block begins is shared by the plain list and the shadows, and so decided
+-- by reading, by these, and by `Begun.RecordThenWritten`
+
+unfoldable pub begunWritten : List Sample
+begunWritten =
+    -- the last heap segment's bits stop at the block's end; a short stack block has codes 4 to 6, each with the written bit
+    record {
+      calls = clear ∷ record-written 4104 9 ∷ audit ∷ initialised 4104 9 ∷ record-written 8192 3 ∷ audit ∷ [];
+      answers = done ∷ done ∷ answer 0 1 0 9 9 ∷ answer 0 1 0 0 0 ∷ done ∷ answer 0 1 1 12 12 ∷ [];
+      heap = (
+        0,
+        (0 ∷ 0 ∷ 0 ∷ 0 ∷ 9 ∷ 0 ∷ 0 ∷ 0 ∷ []) ++ (1 ∷ 0 ∷ 0 ∷ 0 ∷ 255 ∷ 0 ∷ 0 ∷ 0 ∷ []) ++ (9 ∷ 0 ∷ 0 ∷ 0 ∷ 1 ∷ 0 ∷ 0 ∷ 0 ∷ [])
+            ++ zeros8,
+      );
+      primary = (0, 17 ∷ 21 ∷ 25 ∷ 0 ∷ []);
+      secondary = (0, zeros8);
+    }
+    -- a long stack block: the secondary is that of record
+    ∷ record {
+      calls = record-written 8195 11 ∷ ask 8205 ∷ [];
+      answers = done ∷ answer 0 8195 11 10 1 ∷ [];
+      heap = (0, []);
+      primary = (2, 0 ∷ 193 ∷ 197 ∷ 201 ∷ 205 ∷ 209 ∷ 213 ∷ 217 ∷ 221 ∷ 225 ∷ 229 ∷ 233 ∷ 0 ∷ []);
+      secondary = (3, 11 ∷ 0 ∷ 0 ∷ 0 ∷ 0 ∷ 0 ∷ 0 ∷ 0 ∷ 0 ∷ 0 ∷ 0 ∷ []);
+    }
+    -- the numbers are those of record
+    ∷ one (record-written 0 0) (refusal 3)
+    ∷ one (record-written 4096 4) (refusal 4)
+    ∷ one (record-written 4108 4) (refusal 5)
+    ∷ one (record-written 4152 9) (refusal 4)
+    ∷ one (record-written 8216 9) (refusal 4)
+    ∷ record {
+      calls = record-written 4104 8 ∷ record-written 4112 8 ∷ record-block 4104 8 ∷ record-written 8192 1 ∷ record-written 8192 1 ∷ [];
+      answers = done ∷ refusal 6 ∷ refusal 6 ∷ done ∷ refusal 6 ∷ [];
+      heap = (0, (0 ∷ 0 ∷ 0 ∷ 0 ∷ 8 ∷ 0 ∷ 0 ∷ 0 ∷ []) ++ (1 ∷ 0 ∷ 0 ∷ 0 ∷ 255 ∷ 0 ∷ 0 ∷ 0 ∷ []) ++ zeros8);
+      primary = (0, 5 ∷ 0 ∷ []);
+      secondary = (0, []);
+    }
+    -- a block that takes a freed one's place begins anew, with no byte written
+    ∷ record {
+      calls = record-written 4104 8 ∷ free 4104 ∷ record-block 4104 8 ∷ initialised 4104 1 ∷ [];
+      answers = done ∷ done ∷ done ∷ answer 0 0 0 0 0 ∷ [];
+      heap = (8, 1 ∷ 0 ∷ 0 ∷ 0 ∷ 0 ∷ 0 ∷ 0 ∷ 0 ∷ []);
+      primary = (0, []);
+      secondary = (0, []);
+    }
+    ∷ []
+
 -- every sample holds
 abbrev pub SamplesHold : Type 0
-SamplesHold = (allHold table ≡ true) × (allHold edges ≡ true)
+SamplesHold = (allHold table ≡ true) × (allHold edges ≡ true) × (allHold begunWritten ≡ true)

@@ -3,10 +3,11 @@ use map::Position;
 use plain::Reading;
 ghost use mathlib.Core.Path.{_≡_};
 ghost use Prim.Native.Nat.{_+_, _-_, _%_, _≤_, _<_};
-ghost use lib.ListN.{length};
+ghost use lib.ListN.{length, replicate};
+ghost use Rattle.number.specs.Bits.{ofBits};
 ghost use Rattle.number.specs.Parts.{at, over};
 ghost use Rattle.plain.specs.Answers.{readingOf};
-ghost use Rattle.plain.specs.Block.{fresh};
+ghost use Rattle.plain.specs.Block.{begun};
 ghost use Rattle.plain.specs.Ops.{markRange, rangeMarked};
 ghost use Rattle.heap_layout.specs.Reading.{heapReading};
 ghost use Rattle.heap_layout.specs.Ops.{placeLength, heapVacant, heapStamp, heapErase, heapMark, heapMarked, heapOps};
@@ -84,18 +85,33 @@ fn put_segment(heap: &mut [u8], at: usize, low: u32, high: u32)
     number::put_at(heap, at + 4, high);
 }
 
-// The header of a block, and for each of its segments the number and four zeros: nothing is written yet.
-pub fn stamp(heap: &mut [u8], base: Position, len: u32)
+// The written bits of a segment of which the block has n bytes, as the block begins. None is set past its end.
+fn first_bits(written: bool, n: u32) -> u32
+    requires { ⌜ n ≤ 8 ⌝ }
+    ensures { λ r. ⌜ r ≡ ofBits (replicate n written) ⌝ }
+{
+    if written {
+        return (1u32 << n) - 1;
+    }
+    0
+}
+
+// The header of a block, and for each of its segments the number and the written bits of the block's bytes in it, all set or none.
+pub fn stamp(heap: &mut [u8], base: Position, len: u32, written: bool)
     requires { ⌜ (8 ≤ base .0) × (base .0 % 8 ≡ 0) × (base .0 + len ≤ length (now heap)) ⌝ }
     requires { ⌜ (1 ≤ len) × (length (now heap) % 8 ≡ 0) × (length (now heap) ≤ 131072) ⌝ }
-    ensures { λ _. ⌜ now (heap .exit) ≡ heapStamp 4 8 (now (heap .entry)) (fresh (base .0) len) ⌝ }
+    ensures { λ _. ⌜ now (heap .exit) ≡ heapStamp 4 8 (now (heap .entry)) (begun written (base .0) len) ⌝ }
 {
     let Position(b) = base;
     put_segment(heap, b - 8, 0, len);
+    let whole = first_bits(written, 8);
     let mut d: u32 = 0;
-    while d < len {
-        put_segment(heap, b + (d as usize), d + 1, 0);
+    while d + 8 <= len {
+        put_segment(heap, b + (d as usize), d + 1, whole);
         d += 8;
+    }
+    if d < len {
+        put_segment(heap, b + (d as usize), d + 1, first_bits(written, len - d));
     }
 }
 

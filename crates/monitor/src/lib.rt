@@ -13,6 +13,7 @@ pub use monitor_read::valid;
 pub use monitor_write::clear;
 pub use monitor_write::free;
 pub use monitor_write::record;
+pub use monitor_write::record_written;
 pub use monitor_write::written;
 
 // Any call.
@@ -29,6 +30,14 @@ pub fn step(
     match call {
         Call::Clear => clear(map, heap, primary, secondary),
         Call::Record(base, length) => record(map, heap, primary, secondary, base, length),
+        Call::RecordWritten(base, length) => record_written(
+            map,
+            heap,
+            primary,
+            secondary,
+            base,
+            length,
+        ),
         Call::Free(base) => free(map, heap, primary, secondary, base),
         Call::Written(a, n) => written(map, heap, primary, secondary, a, n),
         Call::Ask(a) => ask(map, heap, primary, secondary, a),

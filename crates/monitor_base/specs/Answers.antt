@@ -6,7 +6,7 @@ use Rattle.plain.specs.Call.{answer}
 use Rattle.shadows.specs.Shadows.{Shadows}
 use Rattle.monitor_base.specs.declared.Answer.{Answer}
 use Rattle.monitor_base.specs.declared.Call.{Call}
-use Rattle.monitor_base.specs.declared.Call.the-variants.{Clear, Record, Free, Written, Ask, Valid, Initialised, Next, Audit}
+use Rattle.monitor_base.specs.declared.Call.the-variants.{Clear, Record, RecordWritten, Free, Written, Ask, Valid, Initialised, Next, Audit}
 
 -- the number and the four fields
 abbrev pub answerOf : Answer → plain.Answer
@@ -19,6 +19,7 @@ outcome r h p s = ((h, (p, s)), answerOf r)
 abbrev pub callOf : Call → plain.Call
 callOf Clear = plain.clear
 callOf (Record base length) = plain.record-block (base .0) length
+callOf (RecordWritten base length) = plain.record-written (base .0) length
 callOf (Free base) = plain.free (base .0)
 callOf (Written a n) = plain.written (a .0) n
 callOf (Ask a) = plain.ask (a .0)

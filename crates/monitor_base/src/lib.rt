@@ -17,6 +17,7 @@ pub struct Answer {
 pub enum Call {
     Clear,
     Record(Address, u32),
+    RecordWritten(Address, u32),
     Free(Address),
     Written(Address, u32),
     Ask(Address),

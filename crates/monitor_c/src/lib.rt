@@ -70,6 +70,25 @@ pub extern "C" fn block_monitor_record(
 }
 
 #[no_mangle]
+pub extern "C" fn block_monitor_record_written(
+    map: &[u32; 4],
+    heap: &mut [u8],
+    primary: &mut [u8],
+    secondary: &mut [u8],
+    base: u32,
+    length: u32,
+    fields: &mut [u32; 4],
+) -> u32
+    ensures { λ k. ⌜ left k (now (fields .exit)) (now (heap .exit)) (now (primary .exit)) (now (secondary .exit))
+        ≡ call (mapOf (now (map .entry))) (plain.record-written base length) (now (heap .entry), (now (primary .entry), now (secondary .entry))) ⌝ }
+{
+    told(
+        monitor::record_written(map_of(map), heap, primary, secondary, Address(base), length),
+        fields,
+    )
+}
+
+#[no_mangle]
 pub extern "C" fn block_monitor_free(
     map: &[u32; 4],
     heap: &mut [u8],

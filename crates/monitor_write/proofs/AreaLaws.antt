@@ -127,7 +127,7 @@ module _ (m : Map) (s : Shadows) (ok : goodMap m ≡ true) (fit : lengthsFit m s
         aligned = λ l h. rw w (aligned-same hs H (heapRules 8 0 hz) down up a l p (f .0) q (sym (whole-fits w l) ∙ h));
         read = rw (w, q);
         vacant = λ l. rw (w, q);
-        stamp = λ l. rw (w, q);
+        stamp = λ t l. rw (w, q);
         erase = λ l. rw (w, q);
         mark = λ n i.
             let room = heap-room hz (at (s .0)) p n i in
@@ -151,7 +151,7 @@ module _ (m : Map) (s : Shadows) (ok : goodMap m ≡ true) (fit : lengthsFit m s
         aligned = λ l h. rw (v .0);
         read = rw (v .0, q);
         vacant = λ l. rw (v .0, q);
-        stamp = λ l. rw (v .0, q);
+        stamp = λ t l. rw (v .0, q);
         erase = λ l. rw (v .0, q);
         mark = λ n i.
             let room = stack-room sz (at (s .1 .0)) (at (s .1 .1)) p n i in

@@ -6,12 +6,12 @@ use Prim.Native.Nat.{ℕ, zero, suc, _+_, _-_, _≤_, _<_}
 use native.Mathlib.Omega.{arith}
 use lib.Dec.{eqb}
 use Rattle.number.proofs.TestLaws.{Test, is-true, is-false, test, same-test}
-use Rattle.plain.specs.Block.{fresh}
+use Rattle.plain.specs.Block.{begun}
 use Rattle.plain.specs.Rules.{Rules}
 use Rattle.plain.specs.Reading.{Reading, nothing, block, damaged}
 use Rattle.plain.specs.Lift.{Shifted, readingUp}
 use Rattle.plain.specs.Ops.{Ops, markRange, readAny}
-use Rattle.plain.specs.Call.{Call, record-block, free, written, Answer, done, firstOf, unless, byRules}
+use Rattle.plain.specs.Call.{Call, begin, free, written, Answer, done, firstOf, unless, byRules}
 use Rattle.plain.specs.ShadowCalls.{isDamaged, inOne, byShadows, shadowsAfter, shadowStep}
 use Rattle.plain.proofs.LiftLaws.{Unshifted}
 use Rattle.monitor_write.specs.AreaCalls.{writtenRefusal}
@@ -52,7 +52,7 @@ pub record At {S X : Type 0} (R : Rules) (O : Ops S) (s : S) (a : ℕ) (E : Rule
   pub aligned : (l : ℕ) → R .fits a l ≡ true → R .aligned a ≡ E .aligned p
   pub read : O .read s a ≡ readingUp start (P .read x p)
   pub vacant : (l : ℕ) → O .vacant s a l ≡ P .vacant x p l
-  pub stamp : (l : ℕ) → O .stamp s (fresh a l) ≡ put (P .stamp x (fresh p l))
+  pub stamp : (w : Bool) (l : ℕ) → O .stamp s (begun w a l) ≡ put (P .stamp x (begun w p l))
   pub erase : (l : ℕ) → O .erase s a l ≡ put (P .erase x p l)
   pub mark : (n : ℕ) → inOne n (P .read x p) ≡ true → markRange O s a n ≡ put (markRange P x p n)
 
@@ -83,15 +83,15 @@ module _ {S X : Type 0} (R : Rules) (O : Ops S) (s : S) (a : ℕ) (E : Rules) (P
   beside-same k zero t y e h = rw (e, h refl)
   beside-same k (suc j) t y e h = rw (e, i .whole)
 
-  pub record-at : (l : ℕ) → shadowStep R O (record-block a l) s ≡ beside put (shadowStep E P (record-block p l) x)
+  pub begin-at : (w : Bool) (l : ℕ) → shadowStep R O (begin w a l) s ≡ beside put (shadowStep E P (begin w p l) x)
   unfolding shadowStep
-  record-at l = beside-same (refusedBy R O c s) (refusedBy E P d x) (shadowsAfter R O c s) (shadowsAfter E P d x) (go (test (E .fits p l))) (λ z. i .stamp l)
+  begin-at w l = beside-same (refusedBy R O c s) (refusedBy E P d x) (shadowsAfter R O c s) (shadowsAfter E P d x) (go (test (E .fits p l))) (λ z. i .stamp w l)
     where
       c : Call
-      c = record-block a l
+      c = begin w a l
 
       d : Call
-      d = record-block p l
+      d = begin w p l
 
       go : Test (E .fits p l) → refusedBy R O c s ≡ refusedBy E P d x
       go (is-true f) = rw (i .vacant l, i .aligned l (i .fits l ∙ f), i .fits l)

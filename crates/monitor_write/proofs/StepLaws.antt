@@ -6,11 +6,11 @@ use mathlib.Core.List.{[], _∷_}
 use Prim.Native.Nat.{ℕ, zero, suc}
 use lib.Dec.{eqb}
 use borrow.Author.Tests.{eq-eqb, ne-eqb}
-use Rattle.plain.specs.Block.{fresh}
+use Rattle.plain.specs.Block.{begun}
 use Rattle.plain.specs.Rules.{Rules}
 use Rattle.plain.specs.Reading.{Reading}
 use Rattle.plain.specs.Ops.{Ops, markRange, readAny}
-use Rattle.plain.specs.Call.{Call, record-block, free, written, Answer, refusal, done, firstOf, unless}
+use Rattle.plain.specs.Call.{Call, begin, free, written, Answer, refusal, done, firstOf, unless}
 use Rattle.plain.specs.ShadowCalls.{isDamaged, isFirst, inOne, lengthOf, shadowStep}
 use Rattle.monitor_write.specs.AreaCalls.{freeRefusal, writtenRefusal}
 
@@ -18,27 +18,27 @@ module _ {S : Type 0} (R : Rules) (O : Ops S) (s : S) where
   abbrev step : Call → S × Answer
   step c = shadowStep R O c s
 
-  module _ (b l : ℕ) where
-    pub record-3 : l ≡ 0 → step (record-block b l) ≡ (s, refusal 3)
+  module _ (w : Bool) (b l : ℕ) where
+    pub begin-3 : l ≡ 0 → step (begin w b l) ≡ (s, refusal 3)
     unfolding shadowStep
-    record-3 e = rw e
+    begin-3 e = rw e
 
-    pub record-4 : l ≢ 0 → R .fits b l ≡ false → step (record-block b l) ≡ (s, refusal 4)
+    pub begin-4 : l ≢ 0 → R .fits b l ≡ false → step (begin w b l) ≡ (s, refusal 4)
     unfolding shadowStep
-    record-4 n f = rw (ne-eqb l 0 n, f)
+    begin-4 n f = rw (ne-eqb l 0 n, f)
 
-    pub record-5 : l ≢ 0 → R .fits b l ≡ true → R .aligned b ≡ false → step (record-block b l) ≡ (s, refusal 5)
+    pub begin-5 : l ≢ 0 → R .fits b l ≡ true → R .aligned b ≡ false → step (begin w b l) ≡ (s, refusal 5)
     unfolding shadowStep
-    record-5 n f a = rw (ne-eqb l 0 n, f, a)
+    begin-5 n f a = rw (ne-eqb l 0 n, f, a)
 
-    pub record-6 : l ≢ 0 → R .fits b l ≡ true → R .aligned b ≡ true → O .vacant s b l ≡ false → step (record-block b l) ≡ (s, refusal 6)
+    pub begin-6 : l ≢ 0 → R .fits b l ≡ true → R .aligned b ≡ true → O .vacant s b l ≡ false → step (begin w b l) ≡ (s, refusal 6)
     unfolding shadowStep
-    record-6 n f a v = rw (ne-eqb l 0 n, f, a, v)
+    begin-6 n f a v = rw (ne-eqb l 0 n, f, a, v)
 
-    pub record-0 : l ≢ 0 → R .fits b l ≡ true → R .aligned b ≡ true → O .vacant s b l ≡ true → (t : S) → t ≡ O .stamp s (fresh b l)
-        → step (record-block b l) ≡ (t, done)
+    pub begin-0 : l ≢ 0 → R .fits b l ≡ true → R .aligned b ≡ true → O .vacant s b l ≡ true → (t : S) → t ≡ O .stamp s (begun w b l)
+        → step (begin w b l) ≡ (t, done)
     unfolding shadowStep
-    record-0 n f a v t e = rw (ne-eqb l 0 n, f, a, v, e)
+    begin-0 n f a v t e = rw (ne-eqb l 0 n, f, a, v, e)
 
   -- refused by a number that is known by an equation, or accepted
   by-number : (j k : ℕ) (x : S × Answer) → k ≡ j → k ≢ 0 → unless j s x ≡ (s, refusal k)

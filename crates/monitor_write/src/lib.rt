@@ -8,3 +8,4 @@ pub use clearing::clear;
 pub use freeing::free;
 pub use marking::written;
 pub use recording::record;
+pub use recording::record_written;

@@ -11,6 +11,7 @@ pub mod ImageLaws
 pub mod LayerLaws
 pub mod SameLaws
 pub mod RunLaws
+pub mod BegunLaws
 pub mod ClimbLaws
 pub mod MarkedLaws
 pub mod TotalLaws

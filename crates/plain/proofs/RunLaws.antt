@@ -4,44 +4,51 @@ use mathlib.Core.Bool.{Bool, true, false, cond, not}
 use mathlib.Core.List.{List, [], _∷_, _++_}
 use mathlib.Core.Logic.{_≢_}
 use mathlib.Core.Option.{Option, none, some}
-use Prim.Native.Nat.{ℕ, zero, suc, _+_, _<_}
+use Prim.Native.Nat.{ℕ, zero, suc, _≤_, _<_}
 use native.Mathlib.Omega.{arith}
 use lib.ListN.{length-replicate}
 use lib.Dec.{leb, eqb}
 use borrow.Author.Tests.{eqb-false}
 use Rattle.number.specs.Parts.{Each}
 use Rattle.number.proofs.TestLaws.{Test, is-true, is-false, test}
-use Rattle.plain.specs.Block.{Block, len, fresh, contains}
+use Rattle.plain.specs.Block.{Block, len, begun, contains}
 use Rattle.plain.specs.Blocks.{find, any, insert}
 use Rattle.plain.specs.Rules.{Rules, Placed, Sound, meets}
-use Rattle.plain.specs.Call.{Call, clear, record-block, free, written, ask, valid, initialised, next, audit, number, Refusal, firstOf, unless, byRules}
+use Rattle.plain.specs.Call.{Call, clear, begin, free, written, ask, valid, initialised, next, audit, number, Refusal, firstOf, unless, byRules}
 use Rattle.plain.specs.PlainList.{byList, listAfter, listAnswer, askOf, nextOf, plainStep}
 use Rattle.plain.specs.Run.{run}
 use Rattle.plain.proofs.KeptLaws.{insert-placed, remove-placed, marks-placed}
 
 -- ---- the placing rules hold after each call
 
-module _ (R : Rules) (G : Sound R) where
-  keep-record : (b l : ℕ) (bs : List Block) → Placed R 0 bs → firstOf (byRules R (record-block b l) ++ byList R (record-block b l) bs) ≡ 0
-      → Placed R 0 (insert (fresh b l) bs)
-  keep-record b l bs P = go (test (eqb l 0)) (test (R .fits b l)) (test (R .aligned b)) (test (any (meets R b l) bs))
-    where
-      ln : len (fresh b l) ≡ l
-      ln = length-replicate l false
+-- what an accepted recording says of the block that begins
+pub record Joins (R : Rules) (b l : ℕ) (bs : List Block) : Type 0 where
+  pub some : 1 ≤ l
+  pub fits : R .fits b l ≡ true
+  pub aligned : R .aligned b ≡ true
+  pub alone : any (meets R b l) bs ≡ false
 
-      go : Test (eqb l 0) → Test (R .fits b l) → Test (R .aligned b) → Test (any (meets R b l) bs)
-          → _≡_ {A = ℕ} (cond (eqb l 0) 3 (cond (not (R .fits b l)) 4 (cond (not (R .aligned b)) 5 (cond (any (meets R b l) bs) 6 0)))) 0 → Placed R 0 (insert (fresh b l) bs)
-      go (is-true n) f a m e = absurd (omega (arith, rw n at e))
-      go (is-false n) (is-false f) a m e = absurd (omega (arith, rw (n, f) at e))
-      go (is-false n) (is-true f) (is-false a) m e = absurd (omega (arith, rw (n, f, a) at e))
-      go (is-false n) (is-true f) (is-true a) (is-true m) e = absurd (omega (arith, rw (n, f, a, m) at e))
-      go (is-false n) (is-true f) (is-true a) (is-false m) e =
-          let k : l ≢ 0 = eqb-false l 0 n in
-          insert-placed R G (fresh b l) (rw ln (omega arith)) (rw ln f) a bs 0 (omega arith) P (rw ln m)
+pub begin-joins : (R : Rules) (w : Bool) (b l : ℕ) (bs : List Block) → firstOf (byRules R (begin w b l) ++ byList R (begin w b l) bs) ≡ 0 → Joins R b l bs
+begin-joins R w b l bs = go (test (eqb l 0)) (test (R .fits b l)) (test (R .aligned b)) (test (any (meets R b l) bs))
+  where
+    go : Test (eqb l 0) → Test (R .fits b l) → Test (R .aligned b) → Test (any (meets R b l) bs)
+        → _≡_ {A = ℕ} (cond (eqb l 0) 3 (cond (not (R .fits b l)) 4 (cond (not (R .aligned b)) 5 (cond (any (meets R b l) bs) 6 0)))) 0 → Joins R b l bs
+    go (is-true n) f a m e = absurd (omega (arith, rw n at e))
+    go (is-false n) (is-false f) a m e = absurd (omega (arith, rw (n, f) at e))
+    go (is-false n) (is-true f) (is-false a) m e = absurd (omega (arith, rw (n, f, a) at e))
+    go (is-false n) (is-true f) (is-true a) (is-true m) e = absurd (omega (arith, rw (n, f, a, m) at e))
+    go (is-false n) (is-true f) (is-true a) (is-false m) e =
+        let k : l ≢ 0 = eqb-false l 0 n in record { some = omega arith; fits = f; aligned = a; alone = m }
+
+module _ (R : Rules) (G : Sound R) where
+  keep-begin : (w : Bool) (b l : ℕ) (bs : List Block) → Placed R 0 bs → Joins R b l bs → Placed R 0 (insert (begun w b l) bs)
+  keep-begin w b l bs P j =
+      let ln : len (begun w b l) ≡ l = length-replicate l w in
+      insert-placed R G (begun w b l) (rw ln (j .some)) (rw ln (j .fits)) (j .aligned) bs 0 (omega arith) P (rw ln (j .alone))
 
   keep-after : (c : Call) (bs : List Block) → Placed R 0 bs → firstOf (byRules R c ++ byList R c bs) ≡ 0 → Placed R 0 (listAfter c bs)
   keep-after clear bs P e = tt
-  keep-after (record-block b l) bs P e = keep-record b l bs P e
+  keep-after (begin w b l) bs P e = keep-begin w b l bs P (begin-joins R w b l bs e)
   keep-after (free x) bs P e = remove-placed R G x bs 0 P
   keep-after (written a n) bs P e = marks-placed R n a bs 0 P
   keep-after (ask a) bs P e = P
@@ -73,7 +80,7 @@ first-low (r ∷ rs) h = go (r .1) (first-low rs (h .1))
 
 listed-low : (R : Rules) (c : Call) (bs : List Block) → Low (byRules R c ++ byList R c bs)
 listed-low R clear bs = tt
-listed-low R (record-block b l) bs = (omega arith, (omega arith, (omega arith, (omega arith, tt))))
+listed-low R (begin w b l) bs = (omega arith, (omega arith, (omega arith, (omega arith, tt))))
 listed-low R (free x) bs = (omega arith, (omega arith, tt))
 listed-low R (written a n) bs = (omega arith, (omega arith, (omega arith, tt)))
 listed-low R (ask a) bs = (omega arith, (omega arith, tt))
@@ -85,7 +92,7 @@ listed-low R audit bs = tt
 -- an accepted call has number 0
 pub accepted-0 : (R : Rules) (c : Call) (bs : List Block) → number (listAnswer R c bs) ≡ 0
 accepted-0 R clear bs = refl
-accepted-0 R (record-block b l) bs = refl
+accepted-0 R (begin w b l) bs = refl
 accepted-0 R (free x) bs = refl
 accepted-0 R (written a n) bs = refl
 accepted-0 R (ask a) bs = go (find (contains a) bs)
@@ -102,13 +109,17 @@ accepted-0 R (next a) bs = go (find (λ b. leb a (b .base)) bs)
     go (some b) = refl
 accepted-0 R audit bs = refl
 
-pub low : (R : Rules) (c : Call) (bs : List Block) → number ((plainStep R c bs) .1) < 8
+-- the number of an answer is the first that holds
+pub number-first : (R : Rules) (c : Call) (bs : List Block) → number ((plainStep R c bs) .1) ≡ firstOf (byRules R c ++ byList R c bs)
 unfolding plainStep
-low R c bs = go (firstOf (byRules R c ++ byList R c bs)) (first-low (byRules R c ++ byList R c bs) (listed-low R c bs))
+number-first R c bs = go (firstOf (byRules R c ++ byList R c bs))
   where
-    go : (k : ℕ) → k < 8 → number ((unless k bs (listAfter c bs, listAnswer R c bs)) .1) < 8
-    go zero h = rw (accepted-0 R c bs) (omega arith)
-    go (suc k) h = h
+    go : (k : ℕ) → number ((unless k bs (listAfter c bs, listAnswer R c bs)) .1) ≡ k
+    go zero = accepted-0 R c bs
+    go (suc k) = refl
+
+pub low : (R : Rules) (c : Call) (bs : List Block) → number ((plainStep R c bs) .1) < 8
+low R c bs = rw (number-first R c bs) (first-low (byRules R c ++ byList R c bs) (listed-low R c bs))
 
 -- ---- whole lists of calls
 

@@ -11,13 +11,13 @@ use lib.ListN.{length-replicate}
 use borrow.Author.Tests.{eq-eqb, ne-eqb, eqb-true, eqb-false}
 use Rattle.number.specs.Bits.{bit}
 use Rattle.number.proofs.TestLaws.{Test, is-true, is-false, test, and-true, same-test, false-of}
-use Rattle.plain.specs.Block.{Block, len, fresh, contains, holds, hasBase, isWritten, allWritten}
+use Rattle.plain.specs.Block.{Block, len, begun, contains, holds, hasBase, isWritten, allWritten}
 use Rattle.plain.specs.Blocks.{find, found, any, insert, remove, markOne, markAll}
 use Rattle.plain.specs.Rules.{Rules, Placed, Sound, meets}
 use Rattle.plain.specs.Reading.{Reading, nothing, block, says, lookup}
 use Rattle.plain.specs.Ops.{Ops, markRange, rangeMarked, readAny}
 use Rattle.plain.specs.Images.{Images}
-use Rattle.plain.specs.Call.{Call, clear, record-block, free, written, ask, valid, initialised, next, audit, Answer, done, yesNo, unless}
+use Rattle.plain.specs.Call.{Call, clear, begin, free, written, ask, valid, initialised, next, audit, Answer, done, yesNo, unless}
 use Rattle.plain.specs.PlainList.{askOf, nextOf, plainStep}
 use Rattle.plain.specs.ShadowCalls.{isDamaged, isBlock, isFirst, inOne, sameBlock, lengthOf, stop, climb, askAnswer, nextAnswer, shadowStep}
 use Rattle.plain.proofs.BlockLaws.{contains-true, true-contains, holds-true, true-holds, holds-one, base-holds, offset-test}
@@ -89,29 +89,29 @@ module _ {S : Type 0} (R : Rules) (G : Sound R) (O : Ops S) (image : List Block 
                 rw (h, eq-eqb (x - b .base) 0 (omega arith), I .image-erase bs P x b t (q ∙ rw (e, h)))
             at-block (is-false h) = rw (h, ne-eqb (x - b .base) 0 (λ z. eqb-false (b .base) x h (omega (arith, facts x b e))))
 
-    record-same : (b l : ℕ) → shadowStep R O (record-block b l) (image bs) ≡ both (plainStep R (record-block b l) bs)
+    begin-same : (w : Bool) (b l : ℕ) → shadowStep R O (begin w b l) (image bs) ≡ both (plainStep R (begin w b l) bs)
     unfolding shadowStep plainStep
-    record-same b l = go (test (eqb l 0)) (test (R .fits b l)) (test (R .aligned b))
+    begin-same w b l = go (test (eqb l 0)) (test (R .fits b l)) (test (R .aligned b))
       where
-        ln : len (fresh b l) ≡ l
-        ln = length-replicate l false
+        ln : len (begun w b l) ≡ l
+        ln = length-replicate l w
 
         last : l ≢ 0 → R .fits b l ≡ true → R .aligned b ≡ true → Test (any (meets R b l) bs)
-            → unless (cond (not (O .vacant (image bs) b l)) 6 0) (image bs) (O .stamp (image bs) (fresh b l), done)
-            ≡ both (unless (cond (any (meets R b l) bs) 6 0) bs (insert (fresh b l) bs, done))
+            → unless (cond (not (O .vacant (image bs) b l)) 6 0) (image bs) (O .stamp (image bs) (begun w b l), done)
+            ≡ both (unless (cond (any (meets R b l) bs) 6 0) bs (insert (begun w b l) bs, done))
         last n f a (is-true m) = rw (I .image-vacant bs P b l (omega arith) f a, m)
         last n f a (is-false m) =
             rw (
               I .image-vacant bs P b l (omega arith) f a,
               m,
-              I .image-stamp bs P (fresh b l) (rw ln (omega arith)) (rw ln f) a (rw ln m),
+              I .image-stamp bs P (begun w b l) (rw ln (omega arith)) (rw ln f) a (rw ln m),
             )
 
         go : Test (eqb l 0) → Test (R .fits b l) → Test (R .aligned b)
             → unless (cond (eqb l 0) 3 (cond (not (R .fits b l)) 4 (cond (not (R .aligned b)) 5 (cond (not (O .vacant (image bs) b l)) 6 0)))) (image bs)
-            (O .stamp (image bs) (fresh b l), done)
+            (O .stamp (image bs) (begun w b l), done)
             ≡ both (unless (cond (eqb l 0) 3 (cond (not (R .fits b l)) 4 (cond (not (R .aligned b)) 5 (cond (any (meets R b l) bs) 6 0)))) bs
-            (insert (fresh b l) bs, done))
+            (insert (begun w b l) bs, done))
         go (is-true n) f a = rw n
         go (is-false n) (is-false f) a = rw (n, f)
         go (is-false n) (is-true f) (is-false a) = rw (n, f, a)
@@ -292,7 +292,7 @@ module _ {S : Type 0} (R : Rules) (G : Sound R) (O : Ops S) (image : List Block 
     -- every call
     pub step-same : (c : Call) → shadowStep R O c (image bs) ≡ both (plainStep R c bs)
     step-same clear = clear-same bs P
-    step-same (record-block b l) = record-same bs P b l
+    step-same (begin w b l) = begin-same bs P w b l
     step-same (free x) = free-same bs P x
     step-same (written a n) = written-same a n
     step-same (ask a) = ask-same bs P a

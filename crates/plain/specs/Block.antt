@@ -13,9 +13,9 @@ pub record Block : Type 0 where
 abbrev pub len : Block → ℕ
 len b = length (b .marks)
 
--- a block of which no byte is written
-abbrev pub fresh : (base length : ℕ) → Block
-fresh b l = record { base = b; marks = replicate l false }
+-- a block as it begins: no byte written, or every byte
+abbrev pub begun : (written : Bool) (base length : ℕ) → Block
+begun w b l = record { base = b; marks = replicate l w }
 
 -- the block holds the address
 abbrev pub contains : ℕ → Block → Bool

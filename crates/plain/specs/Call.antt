@@ -1,5 +1,5 @@
 -- The calls, their answers, and the order of refusals. Assumes nothing.
-use mathlib.Core.Bool.{Bool, cond, not}
+use mathlib.Core.Bool.{Bool, true, false, cond, not}
 use mathlib.Core.List.{List, [], _∷_}
 use Prim.Native.Nat.{ℕ, zero, suc}
 use lib.Dec.{eqb}
@@ -9,7 +9,8 @@ use Rattle.plain.specs.Rules.{Rules}
 -- arguments are any numbers
 pub data Call : Type 0 where
   clear : Call
-  record-block : (base length : ℕ) → Call
+  -- a block begins: no byte counts as written, or every byte does
+  begin : (written : Bool) (base length : ℕ) → Call
   free : (base : ℕ) → Call
   written : (address n : ℕ) → Call
   ask : (address : ℕ) → Call
@@ -17,6 +18,13 @@ pub data Call : Type 0 where
   initialised : (address n : ℕ) → Call
   next : (address : ℕ) → Call
   audit : Call
+
+-- the two ways to record a block
+abbrev pub record-block : (base length : ℕ) → Call
+record-block b l = begin false b l
+
+abbrev pub record-written : (base length : ℕ) → Call
+record-written b l = begin true b l
 
 -- the number, 0 for accepted, and the four answer fields, zero where unused
 pub data Answer : Type 0 where
@@ -52,7 +60,7 @@ unless (suc k) s r = (s, refusal (suc k))
 -- 3, 4 and 5, which follow from arguments and map
 abbrev pub byRules : Rules → Call → List Refusal
 byRules R clear = []
-byRules R (record-block b l) = (3, eqb l 0) ∷ (4, not (R .fits b l)) ∷ (5, not (R .aligned b)) ∷ []
+byRules R (begin w b l) = (3, eqb l 0) ∷ (4, not (R .fits b l)) ∷ (5, not (R .aligned b)) ∷ []
 byRules R (free x) = (4, not (R .inside x)) ∷ []
 byRules R (written a n) = (3, eqb n 0) ∷ (4, not (R .inside a)) ∷ []
 byRules R (ask a) = (4, not (R .inside a)) ∷ []

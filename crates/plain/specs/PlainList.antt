@@ -6,15 +6,15 @@ use mathlib.Core.Option.{Option, none, some}
 use Prim.Native.Nat.{ℕ, _-_}
 use lib.Dec.{leb}
 use Rattle.number.specs.Bits.{bit}
-use Rattle.plain.specs.Block.{Block, len, fresh, contains, holds, hasBase, isWritten, allWritten}
+use Rattle.plain.specs.Block.{Block, len, begun, contains, holds, hasBase, isWritten, allWritten}
 use Rattle.plain.specs.Blocks.{find, any, insert, remove, markAll, count, live}
 use Rattle.plain.specs.Blocks as blocks
 use Rattle.plain.specs.Rules.{Rules, meets}
-use Rattle.plain.specs.Call.{Call, clear, record-block, free, written, ask, valid, initialised, next, audit, Answer, answer, done, yesNo, Refusal, firstOf, unless, byRules}
+use Rattle.plain.specs.Call.{Call, clear, begin, free, written, ask, valid, initialised, next, audit, Answer, answer, done, yesNo, Refusal, firstOf, unless, byRules}
 
 -- the refusals that the live blocks decide: 6 where footprints meet, 7 where there is no such block
 abbrev pub byList : Rules → Call → List Block → List Refusal
-byList R (record-block b l) bs = (6, any (meets R b l) bs) ∷ []
+byList R (begin w b l) bs = (6, any (meets R b l) bs) ∷ []
 byList R (free x) bs = (7, not (any (hasBase x) bs)) ∷ []
 byList R (written a n) bs = (7, not (any (holds a n) bs)) ∷ []
 byList R (ask a) bs = (7, not (any (contains a) bs)) ∷ []
@@ -27,7 +27,7 @@ byList R audit bs = []
 -- the live blocks after an accepted call
 abbrev pub listAfter : Call → List Block → List Block
 listAfter clear bs = []
-listAfter (record-block b l) bs = insert (fresh b l) bs
+listAfter (begin w b l) bs = insert (begun w b l) bs
 listAfter (free x) bs = remove x bs
 listAfter (written a n) bs = markAll a n bs
 listAfter (ask a) bs = bs
@@ -49,7 +49,7 @@ nextOf (some b) = answer 0 (b .base) (len b) 0 0
 -- the answer of an accepted call
 abbrev pub listAnswer : Rules → Call → List Block → Answer
 listAnswer R clear bs = done
-listAnswer R (record-block b l) bs = done
+listAnswer R (begin w b l) bs = done
 listAnswer R (free x) bs = done
 listAnswer R (written a n) bs = done
 listAnswer R (ask a) bs = askOf a (find (contains a) bs)

@@ -4,11 +4,11 @@ use mathlib.Core.List.{List, [], _∷_, _++_}
 use mathlib.Core.Option.{Option, none, some}
 use Prim.Native.Nat.{ℕ, zero, suc, _+_, _-_}
 use lib.Dec.{leb, eqb}
-use Rattle.plain.specs.Block.{fresh}
+use Rattle.plain.specs.Block.{begun}
 use Rattle.plain.specs.Rules.{Rules}
 use Rattle.plain.specs.Reading.{Reading, nothing, block, damaged, Tally, tally}
 use Rattle.plain.specs.Ops.{Ops, markRange, rangeMarked, readAny}
-use Rattle.plain.specs.Call.{Call, clear, record-block, free, written, ask, valid, initialised, next, audit, Answer, answer, done, yesNo, Refusal, firstOf, unless, byRules}
+use Rattle.plain.specs.Call.{Call, clear, begin, free, written, ask, valid, initialised, next, audit, Answer, answer, done, yesNo, Refusal, firstOf, unless, byRules}
 
 -- ---- what a reading says
 
@@ -93,7 +93,7 @@ module _ {S : Type 0} (R : Rules) (O : Ops S) where
   -- tried before 7, which is never given where 8 holds
   abbrev pub byShadows : Call → S → List Refusal
   byShadows clear s = []
-  byShadows (record-block b l) s = (6, not (O .vacant s b l)) ∷ []
+  byShadows (begin w b l) s = (6, not (O .vacant s b l)) ∷ []
   byShadows (free x) s = (8, isDamaged (reading s x)) ∷ (7, not (isFirst (reading s x))) ∷ []
   byShadows (written a n) s = (8, isDamaged (reading s a)) ∷ (7, not (inOne n (reading s a))) ∷ []
   byShadows (ask a) s = (8, isDamaged (reading s a)) ∷ (7, not (isBlock (reading s a))) ∷ []
@@ -105,7 +105,7 @@ module _ {S : Type 0} (R : Rules) (O : Ops S) where
   -- the shadows after an accepted call
   abbrev pub shadowsAfter : Call → S → S
   shadowsAfter clear s = O .cleared
-  shadowsAfter (record-block b l) s = O .stamp s (fresh b l)
+  shadowsAfter (begin w b l) s = O .stamp s (begun w b l)
   shadowsAfter (free x) s = O .erase s x (lengthOf (reading s x))
   shadowsAfter (written a n) s = markRange O s a n
   shadowsAfter (ask a) s = s
@@ -117,7 +117,7 @@ module _ {S : Type 0} (R : Rules) (O : Ops S) where
   -- the answer of an accepted call
   abbrev pub shadowAnswer : Call → S → Answer
   shadowAnswer clear s = done
-  shadowAnswer (record-block b l) s = done
+  shadowAnswer (begin w b l) s = done
   shadowAnswer (free x) s = done
   shadowAnswer (written a n) s = done
   shadowAnswer (ask a) s = askAnswer (reading s a)

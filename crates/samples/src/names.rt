@@ -28,6 +28,7 @@ pub fn name_at(line: &[u8], at: usize) -> Named
 {
     let mut found = Named { kind: 0, at };
     found = or(found, line, b"record", 2);
+    found = or(found, line, b"record_written", 10);
     found = or(found, line, b"free", 3);
     found = or(found, line, b"written", 4);
     found = or(found, line, b"ask", 5);

@@ -1,7 +1,7 @@
--- What a fresh block makes of its bytes, piece by piece. Assumes nothing.
+-- What a block makes of its bytes as it begins, piece by piece. Assumes nothing.
 use mathlib.Core.Path.{_≡_, sym, ap, _∙_}
 use mathlib.Core.Logic.{_⊎_, inl, inr}
-use mathlib.Core.Bool.{true, false}
+use mathlib.Core.Bool.{Bool, true, false}
 use mathlib.Core.List.{List, [], _∷_}
 use Prim.Native.Nat.{ℕ, zero, suc, _+_, _-_, _*_, _/_, _%_, _≤_, _<_, min}
 use native.Mathlib.Omega.{arith}
@@ -9,10 +9,11 @@ use native.Mathlib.Nat.{add-sub-cancel-left, zero-add}
 use lib.ListN.{length-replicate, getD-replicate}
 use borrow.Author.Tests.{lt-ltb, le-ltb, le-leb, lt-leb}
 use Rattle.number.specs.Little.{byteOf}
+use Rattle.number.specs.Bits.{bit}
 use Rattle.number.specs.Parts.{at, zeros, over}
 use Rattle.number.proofs.TestLaws.{and-true, in-true}
 use Rattle.number.proofs.PartLaws.{zeros-at, over-none, over-ext, over-next, over-tail}
-use Rattle.plain.specs.Block.{fresh}
+use Rattle.plain.specs.Block.{begun}
 use Rattle.plain.specs.Layer.{layer}
 use Rattle.stack_layout.specs.Code.{shortCode, pieceOf, codeOf, pieceByte, primaryOf, secondaryOf}
 use Rattle.stack_layout.specs.Image.{primaryOwn, secondaryOwn, primaryByte, secondaryByte}
@@ -22,24 +23,24 @@ pub vacant-secondary : (P S : List ℕ) (b l : ℕ) → stackVacant (P, S) b l �
 unfolding stackVacant
 vacant-secondary P S b l e = and-true (zeros (at P) b l) (zeros (at S) b l) e .1
 
--- what a fresh block makes of the shadows, byte by byte
-pub stamped : (P S Q T : List ℕ) (b l : ℕ) → Q ≡ over b l (λ q. primaryOf l (q - b) 0) P → T ≡ over b l (λ q. secondaryOf l (q - b)) S
-    → _≡_ {A = StackShadows} (Q, T) (stackStamp (P, S) (fresh b l))
+-- what a block makes of the shadows as it begins, byte by byte
+pub stamped : (w : Bool) (P S Q T : List ℕ) (b l m : ℕ) → m ≡ bit w → Q ≡ over b l (λ q. primaryOf l (q - b) m) P → T ≡ over b l (λ q. secondaryOf l (q - b)) S
+    → _≡_ {A = StackShadows} (Q, T) (stackStamp (P, S) (begun w b l))
 unfolding stackStamp layer primaryOwn secondaryOwn
-stamped P S Q T b l u v =
-    rw (u, v, length-replicate l false, over-ext b l (primaryByte (fresh b l ∷ [])) (λ q. primaryOf l (q - b) 0) P prim, over-ext b l (secondaryByte (fresh b l ∷ [])) (λ q. secondaryOf l (q - b)) S sec)
+stamped w P S Q T b l m e u v =
+    rw (u, v, length-replicate l w, over-ext b l (primaryByte (begun w b l ∷ [])) (λ q. primaryOf l (q - b) m) P prim, over-ext b l (secondaryByte (begun w b l ∷ [])) (λ q. secondaryOf l (q - b)) S sec)
   where
-    prim : (q : ℕ) → b ≤ q → q < b + l → primaryByte (fresh b l ∷ []) q ≡ primaryOf l (q - b) 0
-    prim q x y = rw (length-replicate l false, in-true b (b + l) q x y, getD-replicate l (q - b) false false (omega arith))
+    prim : (q : ℕ) → b ≤ q → q < b + l → primaryByte (begun w b l ∷ []) q ≡ primaryOf l (q - b) m
+    prim q x y = rw (length-replicate l w, in-true b (b + l) q x y, getD-replicate l (q - b) w false (omega arith), e)
 
-    sec : (q : ℕ) → b ≤ q → q < b + l → secondaryByte (fresh b l ∷ []) q ≡ secondaryOf l (q - b)
-    sec q x y = rw (length-replicate l false, in-true b (b + l) q x y)
+    sec : (q : ℕ) → b ≤ q → q < b + l → secondaryByte (begun w b l ∷ []) q ≡ secondaryOf l (q - b)
+    sec q x y = rw (length-replicate l w, in-true b (b + l) q x y)
 
 -- the primary bytes of a short block climb from its first code
-pub short-primary : (b L n : ℕ) → L ≤ 8 → n ≡ L * (L - 1) / 2 → (P Q : List ℕ) → Q ≡ over b L (λ q. 4 * (n + 1) + 4 * (q - b)) P
-    → Q ≡ over b L (λ q. primaryOf L (q - b) 0) P
+pub short-primary : (b L n m : ℕ) → L ≤ 8 → n ≡ L * (L - 1) / 2 → (P Q : List ℕ) → Q ≡ over b L (λ q. 4 * (n + 1) + m + 4 * (q - b)) P
+    → Q ≡ over b L (λ q. primaryOf L (q - b) m) P
 unfolding primaryOf codeOf shortCode
-short-primary b L n h k P Q e = e ∙ over-ext b L (λ q. 4 * (n + 1) + 4 * (q - b)) (λ q. primaryOf L (q - b) 0) P (λ q x y. rw (le-leb L 8 h, ← k) (omega arith))
+short-primary b L n m h k P Q e = e ∙ over-ext b L (λ q. 4 * (n + 1) + m + 4 * (q - b)) (λ q. primaryOf L (q - b) m) P (λ q x y. rw (le-leb L 8 h, ← k) (omega arith))
 
 -- a byte of a place that is zero
 was-zero : (S : List ℕ) (b n q : ℕ) → zeros (at S) b n ≡ true → b ≤ q → q < b + n → at S q ≡ 0
@@ -62,9 +63,9 @@ module _ (L o j : ℕ) (long : 9 ≤ L) (eights : o % 8 ≡ 0) (whole : o + 8 �
       go (inl h) = omega arith
       go (inr h) = omega arith
 
-  pub piece-primary : primaryOf L (o + j) 0 ≡ 192 + 4 * j
+  pub piece-primary : (m : ℕ) → primaryOf L (o + j) m ≡ 192 + m + 4 * j
   unfolding primaryOf codeOf
-  piece-primary = rw (lt-leb L 8 long, piece-at, add-sub-cancel-left o j) (omega arith)
+  piece-primary m = rw (lt-leb L 8 long, piece-at, add-sub-cancel-left o j) (omega arith)
 
   pub piece-secondary : secondaryOf L (o + j) ≡ pieceByte L o j
   unfolding secondaryOf
@@ -84,14 +85,14 @@ module _ (b L o n : ℕ) (long : 9 ≤ L) (eights : o % 8 ≡ 0) (whole : o + 8 
   near j h (inl e) = inl (omega arith)
   near j h (inr e) = inr e
 
-  pub next-primary : (P Q R : List ℕ) → Q ≡ over b o (λ q. primaryOf L (q - b) 0) P → R ≡ over (b + o) n (λ q. 192 + 4 * (q - (b + o))) Q
-      → R ≡ over b (o + n) (λ q. primaryOf L (q - b) 0) P
-  next-primary P Q R before after =
+  pub next-primary : (m : ℕ) (P Q R : List ℕ) → Q ≡ over b o (λ q. primaryOf L (q - b) m) P → R ≡ over (b + o) n (λ q. 192 + m + 4 * (q - (b + o))) Q
+      → R ≡ over b (o + n) (λ q. primaryOf L (q - b) m) P
+  next-primary m P Q R before after =
       after
       ∙ rw before
-      (over-next b o n (λ q. primaryOf L (q - b) 0) (λ q. 192 + 4 * (q - (b + o))) P
+      (over-next b o n (λ q. primaryOf L (q - b) m) (λ q. 192 + m + 4 * (q - (b + o))) P
       (λ q x y. let e : o + (q - (b + o)) ≡ q - b = omega arith in
-      sym (rw e at (piece-primary L o (q - (b + o)) long eights whole (near (q - (b + o)) (omega arith) last) (omega arith)))))
+      sym (rw e at (piece-primary L o (q - (b + o)) long eights whole (near (q - (b + o)) (omega arith) last) (omega arith) m))))
 
 -- the two numbers of a piece right after those of the pieces before it
 module _ (b L o : ℕ) (long : 9 ≤ L) (eights : o % 8 ≡ 0) (whole : o + 8 ≤ L) where

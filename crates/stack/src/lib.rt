@@ -5,7 +5,7 @@ ghost use mathlib.Core.List.{List};
 ghost use Prim.Native.Nat.{ℕ, _+_, _<_, _≤_};
 ghost use lib.ListN.{length};
 ghost use Rattle.number.specs.Parts.{at};
-ghost use Rattle.plain.specs.Block.{fresh};
+ghost use Rattle.plain.specs.Block.{begun};
 ghost use Rattle.plain.specs.Ops.{markRange, rangeMarked};
 ghost use Rattle.plain.specs.Answers.{readingOf};
 ghost use Rattle.stack_layout.specs.Reading.{stackReading};
@@ -44,14 +44,14 @@ pub fn vacant(primary: &[u8], secondary: &[u8], base: Position, len: u32) -> boo
     number::zero_at(primary, q, n) & number::zero_at(secondary, q, n)
 }
 
-// Records a block, nothing written, in a place that is vacant: secondary bytes that are to be zero stay as they are.
-pub fn stamp(primary: &mut [u8], secondary: &mut [u8], base: Position, len: u32)
+// Records a block, all its bytes written or none, in a place that is vacant: secondary bytes that are to be zero stay as they are.
+pub fn stamp(primary: &mut [u8], secondary: &mut [u8], base: Position, len: u32, written: bool)
     requires { ⌜ (base .0 + len ≤ length (now primary)) × (length (now primary) ≡ length (now secondary)) × (length (now primary) ≤ 65536) × (1 ≤ len)
         × (stackVacant (now primary, now secondary) (base .0) len ≡ true) ⌝ }
-    ensures { λ _. ⌜ _≡_ {A = StackShadows} (now (primary .exit), now (secondary .exit)) (stackStamp (now (primary .entry), now (secondary .entry)) (fresh (base .0) len)) ⌝ }
+    ensures { λ _. ⌜ _≡_ {A = StackShadows} (now (primary .exit), now (secondary .exit)) (stackStamp (now (primary .entry), now (secondary .entry)) (begun written (base .0) len)) ⌝ }
 {
     let q = base.0;
-    stamping::stamp_primary(primary, q, len);
+    stamping::stamp_primary(primary, q, len, stamping::first_mark(written));
     stamping::stamp_secondary(secondary, q, len);
 }
 

@@ -3,11 +3,22 @@ ghost use mathlib.Core.Path.{_≡_};
 ghost use mathlib.Core.Bool.{true};
 ghost use Prim.Native.Nat.{_+_, _-_, _*_, _≤_};
 ghost use lib.ListN.{length};
+ghost use Rattle.number.specs.Bits.{bit};
 ghost use Rattle.number.specs.Parts.{at, zeros, over};
 ghost use Rattle.stack_layout.specs.Code.{primaryOf, secondaryOf};
 use crate::coding::codes_below;
 
-// Codes that climb by one, none written, in a whole part: each byte is 4 above the one before, so no division is needed.
+// The written bit of each byte of a block as it begins.
+pub fn first_mark(written: bool) -> u8
+    ensures { λ r. ⌜ (r ≡ bit written) × (r ≤ 1) ⌝ }
+{
+    if written {
+        return 1;
+    }
+    0
+}
+
+// Codes that climb by one, with one mark for all, in a whole part: each byte is 4 above the one before, so no division is needed.
 pub fn climb(part: &mut [u8], first: u8)
     requires { ⌜ first + 4 * length (now part) ≤ 255 ⌝ }
     ensures { λ _. ⌜ now (part .exit) ≡ over 0 (length (now (part .entry))) (λ i. first + 4 * i) (now (part .entry)) ⌝ }
@@ -54,23 +65,23 @@ pub fn climb_at(primary: &mut [u8], q: usize, n: usize, first: u8)
     climb_part(primary, q, n, first);
 }
 
-// The primary bytes: the codes of a short block climb from its first, those of each piece from 48.
+// The primary bytes, each with this written bit: the codes of a short block climb from its first, those of each piece from 48.
 // The pieces before the last have eight bytes, the last takes the remainder.
-pub fn stamp_primary(primary: &mut [u8], base: usize, len: u32)
-    requires { ⌜ (base + len ≤ length (now primary)) × (length (now primary) ≤ 65536) × (1 ≤ len) ⌝ }
-    ensures { λ _. ⌜ now (primary .exit) ≡ over base len (λ q. primaryOf len (q - base) 0) (now (primary .entry)) ⌝ }
+pub fn stamp_primary(primary: &mut [u8], base: usize, len: u32, mark: u8)
+    requires { ⌜ (base + len ≤ length (now primary)) × (length (now primary) ≤ 65536) × (1 ≤ len) × (mark ≤ 1) ⌝ }
+    ensures { λ _. ⌜ now (primary .exit) ≡ over base len (λ q. primaryOf len (q - base) mark) (now (primary .entry)) ⌝ }
 {
     if len <= 8 {
         let first = 4 * (codes_below(len) + 1);
-        climb_at(primary, base, len as usize, first as u8);
+        climb_at(primary, base, len as usize, first as u8 + mark);
         return;
     }
     let mut o: u32 = 0;
     while o + 16 <= len {
-        climb_at(primary, base + (o as usize), 8, 192);
+        climb_at(primary, base + (o as usize), 8, 192 + mark);
         o += 8;
     }
-    climb_at(primary, base + (o as usize), (len - o) as usize, 192);
+    climb_at(primary, base + (o as usize), (len - o) as usize, 192 + mark);
 }
 
 // The secondary bytes, in a place where they are zero: each piece of a long block begins with the length and its own offset.

@@ -68,18 +68,18 @@ fn spoil(random: &mut Random, input: &mut Vec<u8>) {
             input.truncate(left as usize);
         }
         1 => {
-            let kind = random.pick(&[0, 10, 11, 255, 256, 258, 513, u16::MAX]);
+            let kind = random.pick(&[0, 11, 12, 255, 256, 258, 266, 513, u16::MAX]);
             input.extend(encode(kind, &[4096, 64]));
         }
         2 => {
-            let kind = random.between(1, 9) as u16;
+            let kind = random.between(1, 10) as u16;
             let fields = vec![4104; random.below(6) as usize];
             input.extend(encode(kind, &fields));
         }
         3 => {
             let length = random.pick(&[0, 1, 2, 3, 4, 5, 7, 9, 13, u16::MAX]);
             input.extend(length.to_le_bytes());
-            input.extend(random.pick(&[2u16, 3, 9]).to_le_bytes());
+            input.extend(random.pick(&[2u16, 3, 9, 10]).to_le_bytes());
             input.extend([0; 16]);
         }
         _ => {}

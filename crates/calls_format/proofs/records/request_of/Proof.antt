@@ -42,6 +42,10 @@ long-8 : (c : tie.At-match-keys8) → 8 ≤ length (now (c .before .before .args
 unfolding fieldsOf
 long-8 c = reach 8 (c .match .keys8) (c .before .before .pre)
 
+long-10 : (c : tie.At-match-keys9) → 12 ≤ length (now (c .before .before .args .s))
+unfolding fieldsOf
+long-10 c = reach 10 (c .match .keys9) (c .before .before .pre)
+
 field-requires : tie.Need-field-requires
 field-requires c κs = omega (arith, long-1 c)
 
@@ -90,6 +94,12 @@ field-requires-15 c κs = omega (arith, long-7 (c .before))
 field-requires-16 : tie.Need-field-requires-16
 field-requires-16 c κs = omega (arith, long-8 c)
 
+field-requires-17 : tie.Need-field-requires-17
+field-requires-17 c κs = omega (arith, long-10 c)
+
+field-requires-18 : tie.Need-field-requires-18
+field-requires-18 c κs = omega (arith, long-10 (c .before))
+
 returns : tie.Need-returns
 unfolding requestOf
 returns c = rw (c .before .before .before .before .match .keys1, c .before .before .before .field .ensures, c .before .before .field2 .ensures, c .before .field3 .ensures, c .field4 .ensures)
@@ -124,18 +134,23 @@ returns-8 c = rw (c .before .match .keys8, c .field16 .ensures)
 
 returns-9 : tie.Need-returns-9
 unfolding requestOf
-returns-9 c =
+returns-9 c = rw (c .before .before .match .keys9, c .before .field17 .ensures, c .field18 .ensures)
+
+returns-10 : tie.Need-returns-10
+unfolding requestOf
+returns-10 c =
     let k = c .before .before .args .kind in
     let r = c .match .rest in
     rw (
-      ne-eqb k 1 (r .0 .0 .0 .0 .0 .0 .0 .1),
-      ne-eqb k 2 (r .0 .0 .0 .0 .0 .0 .1),
-      ne-eqb k 3 (r .0 .0 .0 .0 .0 .1),
-      ne-eqb k 4 (r .0 .0 .0 .0 .1),
-      ne-eqb k 5 (r .0 .0 .0 .1),
-      ne-eqb k 6 (r .0 .0 .1),
-      ne-eqb k 7 (r .0 .1),
-      ne-eqb k 8 (r .1),
+      ne-eqb k 1 (r .0 .0 .0 .0 .0 .0 .0 .0 .1),
+      ne-eqb k 2 (r .0 .0 .0 .0 .0 .0 .0 .1),
+      ne-eqb k 3 (r .0 .0 .0 .0 .0 .0 .1),
+      ne-eqb k 4 (r .0 .0 .0 .0 .0 .1),
+      ne-eqb k 5 (r .0 .0 .0 .0 .1),
+      ne-eqb k 6 (r .0 .0 .0 .1),
+      ne-eqb k 7 (r .0 .0 .1),
+      ne-eqb k 8 (r .0 .1),
+      ne-eqb k 10 (r .1),
     )
 
 pub request-of-spec : {M : Type 1} → statement M
@@ -158,6 +173,8 @@ request-of-spec =
     field-requires-14
     field-requires-15
     field-requires-16
+    field-requires-17
+    field-requires-18
     returns
     returns-2
     returns-3
@@ -166,4 +183,5 @@ request-of-spec =
     returns-6
     returns-7
     returns-8
-    returns-9)
+    returns-9
+    returns-10)

@@ -11,7 +11,7 @@ use Rattle.monitor_write.proofs.recording.on_heap.Tie as tie
 returns : tie.Need-returns
 returns c =
     let e = c .before .before in
-    sym (heap-4 (now (e .args .heap)) (e .args .base .0) (e .args .len) (e .pre .0) (λ x y. omega arith))
+    sym (heap-4 (now (e .args .heap)) (e .args .written) (e .args .base .0) (e .args .len) (e .pre .0) (λ x y. omega arith))
 
 add-if2 : tie.Need-add-if2
 add-if2 c = search needs
@@ -19,12 +19,12 @@ add-if2 c = search needs
 returns-2 : tie.Need-returns-2
 returns-2 c =
     let e = c .before .before .before in
-    sym (heap-4 (now (e .args .heap)) (e .args .base .0) (e .args .len) (e .pre .0) (λ x y. omega arith))
+    sym (heap-4 (now (e .args .heap)) (e .args .written) (e .args .base .0) (e .args .len) (e .pre .0) (λ x y. omega arith))
 
 returns-3 : tie.Need-returns-3
 returns-3 c =
     let e = c .before .before .before .before in
-    sym (heap-5 (now (e .args .heap)) (e .args .base .0) (e .args .len) (e .pre .0) (c .before .before .if1 .left) (c .before .if2 .left) (c .if3 .taken))
+    sym (heap-5 (now (e .args .heap)) (e .args .written) (e .args .base .0) (e .args .len) (e .pre .0) (c .before .before .if1 .left) (c .before .if2 .left) (c .if3 .taken))
 
 vacant-requires : tie.Need-vacant-requires
 vacant-requires c κs = search needs
@@ -36,7 +36,7 @@ returns-4 : tie.Need-returns-4
 returns-4 c =
     let t = c .before .before .before in
     let e = t .before .before .before .before in
-    sym (heap-6 (now (e .args .heap)) (e .args .base .0) (e .args .len) (e .pre .0) (t .before .before .if1 .left) (t .before .if2 .left) (t .if3 .left)
+    sym (heap-6 (now (e .args .heap)) (e .args .written) (e .args .base .0) (e .args .len) (e .pre .0) (t .before .before .if1 .left) (t .before .if2 .left) (t .if3 .left)
     (sym (c .before .vacant .ensures) ∙ not-true (c .before .vacant .result) (c .if4 .taken)))
 
 stamp-requires : tie.Need-stamp-requires
@@ -50,7 +50,7 @@ returns-5 c =
     let v = c .before .before .before .before in
     let t = v .before .before .before in
     let e = t .before .before .before .before in
-    sym (heap-0 (now (e .args .heap)) (e .args .base .0) (e .args .len) (e .pre .0) (t .before .before .if1 .left) (t .before .if2 .left) (t .if3 .left)
+    sym (heap-0 (now (e .args .heap)) (e .args .written) (e .args .base .0) (e .args .len) (e .pre .0) (t .before .before .if1 .left) (t .before .if2 .left) (t .if3 .left)
     (sym (v .before .vacant .ensures) ∙ not-false (v .before .vacant .result) (v .if4 .left)) _ (c .before .before .stamp .ensures))
 
 pub on-heap-spec : {M : Type 1} → statement M

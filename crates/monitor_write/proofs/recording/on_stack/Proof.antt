@@ -14,7 +14,7 @@ add-if1 c = search needs
 returns : tie.Need-returns
 returns c =
     let e = c .before .before .before in
-    sym (stack-4 (now (e .args .primary), now (e .args .secondary)) (e .args .base .0) (e .args .len) (e .pre .0) (c .if1 .taken))
+    sym (stack-4 (now (e .args .primary), now (e .args .secondary)) (e .args .written) (e .args .base .0) (e .args .len) (e .pre .0) (c .if1 .taken))
 
 vacant-requires : tie.Need-vacant-requires
 vacant-requires c κs = search needs
@@ -29,7 +29,7 @@ returns-2 : tie.Need-returns-2
 returns-2 c =
     let t = c .before .before .before .before in
     let e = t .before .before .before in
-    sym (stack-6 (now (e .args .primary), now (e .args .secondary)) (e .args .base .0) (e .args .len) (e .pre .0) (t .if1 .left)
+    sym (stack-6 (now (e .args .primary), now (e .args .secondary)) (e .args .written) (e .args .base .0) (e .args .len) (e .pre .0) (t .if1 .left)
     (sym (c .before .vacant .ensures) ∙ not-true (c .before .vacant .result) (c .if2 .taken)))
 
 stamp-requires : tie.Need-stamp-requires
@@ -49,7 +49,7 @@ returns-3 c =
     let v = c .before .before .before .before .before .before .before in
     let t = v .before .before .before .before in
     let e = t .before .before .before in
-    sym (stack-0 (now (e .args .primary), now (e .args .secondary)) (e .args .base .0) (e .args .len) (e .pre .0) (t .if1 .left)
+    sym (stack-0 (now (e .args .primary), now (e .args .secondary)) (e .args .written) (e .args .base .0) (e .args .len) (e .pre .0) (t .if1 .left)
     (sym (v .before .vacant .ensures) ∙ not-false (v .before .vacant .result) (v .if2 .left)) _ (c .before .before .before .before .stamp .ensures))
 
 pub on-stack-spec : {M : Type 1} → statement M

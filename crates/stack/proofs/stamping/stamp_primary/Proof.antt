@@ -14,11 +14,11 @@ use Rattle.stack.proofs.stamping.stamp_primary.Statement.{statement}
 use Rattle.stack.proofs.stamping.stamp_primary.Tie as tie
 
 abbrev Inv-loop : tie.InvT-loop
-Inv-loop primary₀ base len o₀ primary o =
-    (o % 8 ≡ 0) × (o + 8 ≤ len) × (length primary ≡ length primary₀) × (primary ≡ over base o (λ q. primaryOf len (q - base) 0) primary₀)
+Inv-loop primary₀ base len mark o₀ primary o =
+    (o % 8 ≡ 0) × (o + 8 ≤ len) × (length primary ≡ length primary₀) × (primary ≡ over base o (λ q. primaryOf len (q - base) mark) primary₀)
 
 abbrev μ-loop : tie.MeasureT-loop
-μ-loop primary₀ base len o₀ primary o = len - o
+μ-loop primary₀ base len mark o₀ primary o = len - o
 
 codes-below-requires : tie.Need-codes-below-requires Inv-loop μ-loop
 codes-below-requires c κs = search needs
@@ -32,6 +32,9 @@ mul-first c = search needs
 cast-climb-at : tie.Need-cast-climb-at Inv-loop μ-loop
 cast-climb-at c = search needs
 
+add-climb-at : tie.Need-add-climb-at Inv-loop μ-loop
+add-climb-at c = search needs
+
 climb-at-requires : tie.Need-climb-at-requires Inv-loop μ-loop
 climb-at-requires c κs = search needs
 
@@ -41,7 +44,7 @@ same-length c = search needs
 returns : tie.Need-returns Inv-loop μ-loop
 returns c =
     let s = c .before .before .before .before .before .before .before in
-    short-primary (s .args .base) (s .args .len) _ (omega arith) (c .before .before .before .before .codes-below .ensures .0) (now (s .args .primary)) _
+    short-primary (s .args .base) (s .args .len) _ (s .args .mark) (omega arith) (c .before .before .before .before .codes-below .ensures .0) (now (s .args .primary)) _
     (c .before .before .climb-at .ensures)
 
 loop-holds : tie.Need-loop-holds Inv-loop μ-loop
@@ -53,8 +56,11 @@ add-loop c = search needs
 cast-climb-at-2 : tie.Need-cast-climb-at-2 Inv-loop μ-loop
 cast-climb-at-2 c = search needs
 
-add-climb-at : tie.Need-add-climb-at Inv-loop μ-loop
-add-climb-at c = search needs
+add-climb-at-2 : tie.Need-add-climb-at-2 Inv-loop μ-loop
+add-climb-at-2 c = search needs
+
+add-climb-at-3 : tie.Need-add-climb-at-3 Inv-loop μ-loop
+add-climb-at-3 c = search needs
 
 climb-at-requires-2 : tie.Need-climb-at-requires-2 Inv-loop μ-loop
 climb-at-requires-2 c κs = search needs
@@ -73,20 +79,23 @@ loop-again c =
       omega arith,
       omega arith,
       run .kept .0 ∙ l .inv .2,
-      next-primary (s .base) (s .len) (l .o) 8 (omega arith) (l .inv .0) (omega arith) (inl refl) (omega arith) (now (s .primary)) _ _ (l .inv .3) (run .ensures),
+      next-primary (s .base) (s .len) (l .o) 8 (omega arith) (l .inv .0) (omega arith) (inl refl) (omega arith) (s .mark) (now (s .primary)) _ _ (l .inv .3) (run .ensures),
     )
 
 cast-climb-at-3 : tie.Need-cast-climb-at-3 Inv-loop μ-loop
 cast-climb-at-3 c = search needs
 
-add-climb-at-2 : tie.Need-add-climb-at-2 Inv-loop μ-loop
-add-climb-at-2 c = search needs
+add-climb-at-4 : tie.Need-add-climb-at-4 Inv-loop μ-loop
+add-climb-at-4 c = search needs
 
 sub-climb-at : tie.Need-sub-climb-at Inv-loop μ-loop
 sub-climb-at c = search needs
 
 cast-climb-at-4 : tie.Need-cast-climb-at-4 Inv-loop μ-loop
 cast-climb-at-4 c = search needs
+
+add-climb-at-5 : tie.Need-add-climb-at-5 Inv-loop μ-loop
+add-climb-at-5 c = search needs
 
 climb-at-requires-3 : tie.Need-climb-at-requires-3 Inv-loop μ-loop
 climb-at-requires-3 c κs = search needs
@@ -101,7 +110,7 @@ returns-2 c =
     let n = s .len - l .o in
     let e : l .o + n ≡ s .len = omega arith in
     let last : s .len < l .o + 16 = omega arith in
-    rw e at (next-primary (s .base) (s .len) (l .o) n (omega arith) (l .inv .0) (omega arith) (inr last) (omega arith) (now (s .primary)) _ _ (l .inv .3) (c .before .before .climb-at3 .ensures))
+    rw e at (next-primary (s .base) (s .len) (l .o) n (omega arith) (l .inv .0) (omega arith) (inr last) (omega arith) (s .mark) (now (s .primary)) _ _ (l .inv .3) (c .before .before .climb-at3 .ensures))
 
 pub stamp-primary-spec : {M : Type 1} → statement M
 stamp-primary-spec =
@@ -113,21 +122,24 @@ stamp-primary-spec =
     add-first
     mul-first
     cast-climb-at
+    add-climb-at
     climb-at-requires
     same-length
     returns
     loop-holds
     add-loop
     cast-climb-at-2
-    add-climb-at
+    add-climb-at-2
+    add-climb-at-3
     climb-at-requires-2
     add-o
     loop-less
     loop-again
     cast-climb-at-3
-    add-climb-at-2
+    add-climb-at-4
     sub-climb-at
     cast-climb-at-4
+    add-climb-at-5
     climb-at-requires-3
     same-length-2
     returns-2)

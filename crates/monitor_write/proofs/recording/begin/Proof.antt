@@ -1,10 +1,10 @@
--- `monitor_write::recording::record` meets its contract: one arm for each area. Assumes nothing.
+-- `monitor_write::recording::begin` meets its contract: one arm for each area. Assumes nothing.
 use mathlib.Core.Path.{_≡_, sym, _∙_}
 use mathlib.Core.Bool.{true}
 use native.Mathlib.Omega.{arith}
 use denote.Ref.{now}
 use Rattle.map.specs.Map.{goodMap}
-use Rattle.plain.specs.Call.{Call, record-block, refusal}
+use Rattle.plain.specs.Call.{Call, begin, refusal}
 use Rattle.shadows.specs.Shadows.{Shadows, lengthsFit}
 use Rattle.stack_layout.specs.Ops.{StackShadows}
 use Rattle.monitor_base.specs.Locating.{Lies}
@@ -13,13 +13,13 @@ use Rattle.monitor_base.specs.declared.Located.the-variants.{Heap, Stack, Outsi
 use Rattle.monitor_write.specs.AreaCalls.{onHeap, onStack}
 use Rattle.monitor_base.proofs.CallLaws.{early-good}
 use Rattle.monitor_write.proofs.OutcomeLaws.{refused, stepped, stepped-heap, stepped-stack}
-use Rattle.monitor_write.proofs.StepLaws.{record-3, record-4}
-use Rattle.monitor_write.proofs.AtLaws.{record-at}
+use Rattle.monitor_write.proofs.StepLaws.{begin-3, begin-4}
+use Rattle.monitor_write.proofs.AtLaws.{begin-at}
 use Rattle.monitor_base.proofs.LocatingLaws.{heap-there, stack-there}
 use Rattle.monitor_write.proofs.AreaLaws.{heap-at, stack-at, out-fits}
 use borrow.Author.Needs.{needs}
-use Rattle.monitor_write.proofs.recording.record.Statement.{statement}
-use Rattle.monitor_write.proofs.recording.record.Tie as tie
+use Rattle.monitor_write.proofs.recording.begin.Statement.{statement}
+use Rattle.monitor_write.proofs.recording.begin.Tie as tie
 
 -- the function's entry, from where map and lengths are checked
 abbrev entry : tie.After-checked → tie.Start
@@ -29,7 +29,7 @@ abbrev shadows : tie.Start → Shadows
 shadows c = (now (c .args .heap), (now (c .args .primary), now (c .args .secondary)))
 
 abbrev asked : tie.Start → Call
-asked c = record-block (c .args .base .0) (c .args .len)
+asked c = begin (c .args .written) (c .args .base .0) (c .args .len)
 
 good-fit : (c : tie.Else1) → (goodMap (entry (c .before) .args .map) ≡ true) × (lengthsFit (entry (c .before) .args .map) (shadows (entry (c .before))) ≡ true)
 unfolding lengthsFit
@@ -69,7 +69,7 @@ returns-2 c =
     let k = c .before .before in
     let e = entry (k .before) in
     stepped (e .args .map) (asked e) (shadows e) (k .before .checked .result) (k .before .checked .ensures) (c .refusal2 .result) (k .if1 .left) (shadows e) (refusal 3) (c .refusal2 .ensures)
-    (λ g l. record-3 _ _ (shadows e) _ _ (c .before .if2 .taken))
+    (λ g l. begin-3 _ _ (shadows e) _ _ _ (c .before .if2 .taken))
 
 locate-requires : tie.Need-locate-requires
 locate-requires c κs = search needs
@@ -118,9 +118,9 @@ returns-3 c =
     let k = p .before .before .before .before in
     let e = entry (k .before) in
     let h = in-heap p in
-    stepped-heap (e .args .map) (asked e) (shadows e) (k .before .checked .result) (k .before .checked .ensures) (c .refusal3 .result) (k .if1 .left) _ _ (onHeap (record-block (p .p .given .0 .0 .0) (e .args .len)) (shadows e .0)) (c .refusal3 .ensures)
+    stepped-heap (e .args .map) (asked e) (shadows e) (k .before .checked .result) (k .before .checked .ensures) (c .refusal3 .result) (k .if1 .left) _ _ (onHeap (begin (e .args .written) (p .p .given .0 .0 .0) (e .args .len)) (shadows e .0)) (c .refusal3 .ensures)
     (c .before .before .before .on-heap .ensures)
-    (λ g l. record-at _ _ (shadows e) _ _ _ _ _ _ (heap-at (e .args .map) (shadows e) g l (e .args .base .0) _ (h .0) (h .1)) (e .args .len))
+    (λ g l. begin-at _ _ (shadows e) _ _ _ _ _ _ (heap-at (e .args .map) (shadows e) g l (e .args .base .0) _ (h .0) (h .1)) (e .args .written) (e .args .len))
 
 same-length-2 : tie.Need-same-length-2
 same-length-2 c = search needs
@@ -137,9 +137,9 @@ returns-4 c =
     let e = entry (k .before) in
     let h = in-stack p in
     let t : StackShadows = (x .on-stack .last .0, x .on-stack .last .1 .0) in
-    stepped-stack (e .args .map) (asked e) (shadows e) (k .before .checked .result) (k .before .checked .ensures) (c .refusal4 .result) (k .if1 .left) t _ (onStack (record-block (p .p2 .given .0 .0 .0) (e .args .len)) (shadows e .1)) (c .refusal4 .ensures)
+    stepped-stack (e .args .map) (asked e) (shadows e) (k .before .checked .result) (k .before .checked .ensures) (c .refusal4 .result) (k .if1 .left) t _ (onStack (begin (e .args .written) (p .p2 .given .0 .0 .0) (e .args .len)) (shadows e .1)) (c .refusal4 .ensures)
     (x .on-stack .ensures)
-    (λ g l. record-at _ _ (shadows e) _ _ _ _ _ _ (stack-at (e .args .map) (shadows e) g l (e .args .base .0) _ (h .0) (h .1)) (e .args .len))
+    (λ g l. begin-at _ _ (shadows e) _ _ _ _ _ _ (stack-at (e .args .map) (shadows e) g l (e .args .base .0) _ (h .0) (h .1)) (e .args .written) (e .args .len))
 
 returns-5 : tie.Need-returns-5
 unfolding lengthsFit
@@ -147,10 +147,10 @@ returns-5 c =
     let k = c .before .before .before .before .before in
     let e = entry (k .before) in
     stepped (e .args .map) (asked e) (shadows e) (k .before .checked .result) (k .before .checked .ensures) (c .refusal5 .result) (k .if1 .left) (shadows e) (refusal 4) (c .refusal5 .ensures)
-    (λ g l. record-4 _ _ (shadows e) _ _ (c .before .before .before .before .if2 .left) (out-fits (e .args .map) _ _ (outside (c .before))))
+    (λ g l. begin-4 _ _ (shadows e) _ _ _ (c .before .before .before .before .if2 .left) (out-fits (e .args .map) _ _ (outside (c .before))))
 
-pub record-spec : {M : Type 1} → statement M
-record-spec =
+pub begin-spec : {M : Type 1} → statement M
+begin-spec =
     tie.close
     (tie.spec
     checked-requires

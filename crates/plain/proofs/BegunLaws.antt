@@ -1,0 +1,138 @@
+-- The two ways to record on the plain list: to record a block and then mark all its bytes is to record it as written. Assumes nothing.
+use mathlib.Core.Path.{_≡_, refl, sym, ap, _∙_}
+use mathlib.Core.Bool.{Bool, true, false, cond}
+use mathlib.Core.List.{List, [], _∷_, _++_}
+use Prim.Native.Nat.{ℕ, zero, suc, _+_, _-_, _≤_, _<_}
+use native.Mathlib.Omega.{arith}
+use native.Mathlib.Nat.{sub-self}
+use lib.ListN.{set, replicate, length-set, length-replicate}
+use lib.Dec.{ltb}
+use borrow.Author.Tests.{ltb-true, ltb-false, ne-eqb}
+use Rattle.number.proofs.TestLaws.{Test, is-true, is-false, test, false-of}
+use Rattle.plain.specs.Block.{Block, len, begun, contains, holds, markBlock}
+use Rattle.plain.specs.Blocks.{find, any, insert, markOne, markAll}
+use Rattle.plain.specs.Rules.{Rules, Placed, Sound, meets}
+use Rattle.plain.specs.Call.{begin, written, number, done, firstOf, byRules}
+use Rattle.plain.specs.PlainList.{byList, plainStep}
+use Rattle.plain.proofs.BlockLaws.{contains-true, true-contains, true-holds}
+use Rattle.plain.proofs.KeptLaws.{any-false, base-inside, apart}
+use Rattle.plain.proofs.RunLaws.{Joins, begin-joins, number-first}
+
+-- ---- the marks of one block
+
+-- n marks are set from mark i on, one after the other
+setMany : (ms : List Bool) (i n : ℕ) → List Bool
+setMany ms i zero = ms
+setMany ms i (suc n) = setMany (set ms i true) (suc i) n
+
+set-later : (x : Bool) (ms : List Bool) (i n : ℕ) → setMany (x ∷ ms) (suc i) n ≡ x ∷ setMany ms i n
+unfolding setMany
+set-later x ms i zero = refl
+set-later x ms i (suc n) = set-later x (set ms i true) (suc i) n
+
+-- whatever they all were before
+set-all : (w : Bool) (l : ℕ) → setMany (replicate l w) 0 l ≡ replicate l true
+unfolding setMany
+set-all w zero = refl
+set-all w (suc l) = set-later true (replicate l w) 0 l ∙ ap (λ (ms : List Bool). true ∷ ms) (set-all w l)
+
+-- ---- a block that joined a list
+
+any-insert : (p : Block → Bool) (b : Block) (bs : List Block) → p b ≡ true → any p (insert b bs) ≡ true
+unfolding find insert
+any-insert p b [] e = rw e
+any-insert p b (c ∷ cs) e = go (ltb (b .base) (c .base)) (test (p c)) (any-insert p b cs e)
+  where
+    go : (t : Bool) → Test (p c) → any p (insert b cs) ≡ true → any p (cond t (b ∷ c ∷ cs) (c ∷ insert b cs)) ≡ true
+    go true s ih = rw e
+    go false (is-true h) ih = rw h
+    go false (is-false h) ih = rw h ih
+
+-- a byte that no listed block holds is marked in the one that joined
+mark-insert : (a : ℕ) (b : Block) (bs : List Block) → contains a b ≡ true → any (contains a) bs ≡ false
+    → markOne a (insert b bs) ≡ insert (markBlock a b) bs
+unfolding insert markOne
+mark-insert a b [] e m = rw e
+mark-insert a b (c ∷ cs) e m =
+    let n = any-false (contains a) c cs m in go (ltb (b .base) (c .base)) (n .0) (mark-insert a b cs e (n .1))
+  where
+    go : (t : Bool) → contains a c ≡ false → markOne a (insert b cs) ≡ insert (markBlock a b) cs
+        → markOne a (cond t (b ∷ c ∷ cs) (c ∷ insert b cs)) ≡ cond t (markBlock a b ∷ c ∷ cs) (c ∷ insert (markBlock a b) cs)
+    go true n ih = rw e
+    go false n ih = rw (n, ih)
+
+-- so is each byte of a range, since marks change neither base nor length
+marks-insert : (n a : ℕ) (b : Block) (bs : List Block) → b .base ≤ a → a + n ≤ b .base + len b
+    → ((x : ℕ) → contains x b ≡ true → any (contains x) bs ≡ false)
+    → markAll a n (insert b bs) ≡ insert (record { base = b .base; marks = setMany (b .marks) (a - b .base) n }) bs
+unfolding markAll setMany
+marks-insert zero a b bs h k alone = refl
+marks-insert (suc n) a b bs h k alone =
+    rw (mark-insert a b bs here (alone a here)) (marks-insert n (suc a) c bs (omega arith) (omega (arith, ls)) still ∙ rw e)
+  where
+    c : Block
+    c = markBlock a b
+
+    ls : len c ≡ len b
+    ls = length-set (b .marks) (a - b .base) true
+
+    e : suc a - b .base ≡ suc (a - b .base)
+    e = omega arith
+
+    here : contains a b ≡ true
+    here = true-contains a b h (omega arith)
+
+    still : (x : ℕ) → contains x c ≡ true → any (contains x) bs ≡ false
+    still x i = let f = contains-true x c i in alone x (true-contains x b (f .0) (omega (arith, f, ls)))
+
+-- ---- one call, and then the other
+
+module _ (R : Rules) (G : Sound R) where
+  -- blocks whose footprints do not meet share no byte
+  no-share : (b l : ℕ) → 1 ≤ l → R .fits b l ≡ true → (bs : List Block) (from : ℕ) → Placed R from bs → any (meets R b l) bs ≡ false
+      → (x : ℕ) → b ≤ x → x < b + l → any (contains x) bs ≡ false
+  unfolding find
+  no-share b l k f [] from P m x u v = refl
+  no-share b l k f (c ∷ cs) from P m x u v = rw no-c (no-share b l k f cs (R .high (c .base) (len c)) (P .later) (mm .1) x u v)
+    where
+      mm : (meets R b l c ≡ false) × (any (meets R b l) cs ≡ false)
+      mm = any-false (meets R b l) c cs m
+
+      sides : (b < c .base → R .high b l ≤ R .low (c .base) (len c)) × (c .base ≤ b → R .high (c .base) (len c) ≤ R .low b l)
+      sides = apart R G b l c k f (P .fits) (mm .0)
+
+      go : (c .base ≤ x) × (x < c .base + len c) → Test (ltb b (c .base)) → ⊥
+      go h (is-true t) = omega (arith, h, sides .0 (ltb-true b (c .base) t), G .high-end b l, G .low-base (c .base) (len c) (P .fits))
+      go h (is-false t) = omega (arith, h, sides .1 (ltb-false b (c .base) t), G .high-end (c .base) (len c), G .low-base b l f)
+
+      no-c : contains x c ≡ false
+      no-c = false-of (contains x c) (λ e. go (contains-true x c e) (test (ltb b (c .base))))
+
+  begin-step : (w : Bool) (b l : ℕ) (bs : List Block) → firstOf (byRules R (begin w b l) ++ byList R (begin w b l) bs) ≡ 0
+      → plainStep R (begin w b l) bs ≡ (insert (begun w b l) bs, done)
+  unfolding plainStep
+  begin-step w b l bs e = rw e
+
+  written-step : (w : Bool) (b l : ℕ) (bs : List Block) → Placed R 0 bs → Joins R b l bs
+      → plainStep R (written b l) (insert (begun w b l) bs) ≡ (insert (begun true b l) bs, done)
+  unfolding plainStep
+  written-step w b l bs P j = rw (ne-eqb l 0 (omega (arith, j .some)), base-inside R G b l (j .some) (j .fits), held, marked, sub-self b, set-all w l)
+    where
+      ln : len (begun w b l) ≡ l
+      ln = length-replicate l w
+
+      held : any (holds b l) (insert (begun w b l) bs) ≡ true
+      held = any-insert (holds b l) (begun w b l) bs (true-holds b l (begun w b l) (omega arith) (omega (arith, ln)))
+
+      alone : (x : ℕ) → contains x (begun w b l) ≡ true → any (contains x) bs ≡ false
+      alone x i = let h = contains-true x (begun w b l) i in no-share b l (j .some) (j .fits) bs 0 P (j .alone) x (h .0) (omega (arith, h, ln))
+
+      marked : markAll b l (insert (begun w b l) bs) ≡ insert (record { base = b; marks = setMany (replicate l w) (b - b) l }) bs
+      marked = marks-insert l b (begun w b l) bs (omega arith) (omega (arith, ln)) alone
+
+  -- where a recording is accepted, written of the whole block leaves what recording it as written does
+  pub begin-written : (w : Bool) (b l : ℕ) (bs : List Block) → Placed R 0 bs → number ((plainStep R (begin w b l) bs) .1) ≡ 0
+      → plainStep R (written b l) ((plainStep R (begin w b l) bs) .0) ≡ ((plainStep R (begin true b l) bs) .0, done)
+  begin-written w b l bs P e =
+      let z : firstOf (byRules R (begin w b l) ++ byList R (begin w b l) bs) ≡ 0 = sym (number-first R (begin w b l) bs) ∙ e in
+      rw (begin-step w b l bs z, begin-step true b l bs z) (written-step w b l bs P (begin-joins R w b l bs z))
