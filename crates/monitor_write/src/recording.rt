@@ -4,6 +4,7 @@ ghost use mathlib.Core.List.{List};
 ghost use Prim.Native.Nat.{ℕ, _%_, _≤_, _<_};
 ghost use lib.ListN.{length};
 ghost use Rattle.plain.specs.Call as plain;
+ghost use Rattle.shadows.specs.Shadows.{Shadows};
 ghost use Rattle.stack_layout.specs.Ops.{StackShadows};
 ghost use Rattle.monitor_base.specs.Answers.{outcome};
 ghost use Rattle.monitor_write.specs.AreaCalls.{onHeap, onStack};
@@ -63,7 +64,7 @@ fn on_stack(
     0
 }
 
-// The block joins; each of its bytes counts as written, or none.
+// The block joins; each of its bytes counts as written, or none. The number.
 fn begin(
     map: Map,
     heap: &mut [u8],
@@ -72,21 +73,21 @@ fn begin(
     base: Address,
     len: u32,
     written: bool,
-) -> Answer
-    ensures { λ r. ⌜ outcome r (now (heap .exit)) (now (primary .exit)) (now (secondary .exit))
-        ≡ call map (plain.begin written (base .0) len) (now (heap .entry), (now (primary .entry), now (secondary .entry))) ⌝ }
+) -> u32
+    ensures { λ r. ⌜ _≡_ {A = Shadows × plain.Answer} ((now (heap .exit), (now (primary .exit), now (secondary .exit))), plain.refusal r)
+        (call map (plain.begin written (base .0) len) (now (heap .entry), (now (primary .entry), now (secondary .entry)))) ⌝ }
 {
     let k = guard::checked(map, heap.len(), primary.len(), secondary.len());
     if k != 0 {
-        return guard::refusal(k);
+        return k;
     }
     if len == 0 {
-        return guard::refusal(3);
+        return 3;
     }
     match locate(map, base) {
-        Located::Heap(p) => guard::refusal(on_heap(heap, p, len, written)),
-        Located::Stack(p) => guard::refusal(on_stack(primary, secondary, p, len, written)),
-        Located::Outside => guard::refusal(4),
+        Located::Heap(p) => on_heap(heap, p, len, written),
+        Located::Stack(p) => on_stack(primary, secondary, p, len, written),
+        Located::Outside => 4,
     }
 }
 
@@ -102,7 +103,7 @@ pub fn record(
     ensures { λ r. ⌜ outcome r (now (heap .exit)) (now (primary .exit)) (now (secondary .exit))
         ≡ call map (plain.record-block (base .0) len) (now (heap .entry), (now (primary .entry), now (secondary .entry))) ⌝ }
 {
-    begin(map, heap, primary, secondary, base, len, false)
+    guard::refusal(begin(map, heap, primary, secondary, base, len, false))
 }
 
 // The block joins, every byte written.
@@ -117,5 +118,5 @@ pub fn record_written(
     ensures { λ r. ⌜ outcome r (now (heap .exit)) (now (primary .exit)) (now (secondary .exit))
         ≡ call map (plain.record-written (base .0) len) (now (heap .entry), (now (primary .entry), now (secondary .entry))) ⌝ }
 {
-    begin(map, heap, primary, secondary, base, len, true)
+    guard::refusal(begin(map, heap, primary, secondary, base, len, true))
 }

@@ -34,7 +34,7 @@ returns : tie.Need-returns
 unfolding lengthsFit
 returns c =
     let e = c .before .before .before .before .before .before in
-    refused (e .args .map) clear (shadows e) _ (c .before .before .checked .ensures) (c .refusal .result) (c .before .if1 .taken) (c .refusal .ensures)
+    refused (e .args .map) clear (shadows e) _ (c .before .before .checked .ensures) _ (c .before .if1 .taken) (c .refusal .ensures)
 
 fill-zero-requires : tie.Need-fill-zero-requires
 fill-zero-requires c κs = search needs
@@ -63,7 +63,7 @@ returns-2 c =
     let f = before-fills c in
     let e = f .before .before .before .before .before in
     let t : Shadows = (f-heap c .fill-zero .last .0, (f-primary c .fill-zero2 .last .0, f-secondary c .fill-zero3 .last .0)) in
-    stepped (e .args .map) clear (shadows e) _ (f .before .checked .ensures) (c .refusal2 .result) (f .if1 .left) t done (c .refusal2 .ensures)
+    stepped (e .args .map) clear (shadows e) _ (f .before .checked .ensures) _ (f .if1 .left) t done (c .refusal2 .ensures)
     (λ g l. clear-step (e .args .map) (shadows e) t l (f-heap c .fill-zero .ensures) (f-primary c .fill-zero2 .ensures) (f-secondary c .fill-zero3 .ensures))
 
 pub clear-spec : {M : Type 1} → statement M

@@ -57,7 +57,7 @@ returns : tie.Need-returns
 unfolding lengthsFit
 returns c =
     let e = entry (c .before .before) in
-    refused (e .args .map) (asked e) (shadows e) _ (c .before .before .checked .ensures) (c .refusal .result) (c .before .if1 .taken) (c .refusal .ensures)
+    refused (e .args .map) (asked e) (shadows e) _ (c .before .before .checked .ensures) _ (c .before .if1 .taken) (c .refusal .ensures)
 
 locate-requires : tie.Need-locate-requires
 locate-requires c κs = search needs
@@ -108,7 +108,7 @@ returns-2 c =
     let k = p .before .before .before in
     let e = entry (k .before) in
     let h = in-heap p in
-    stepped-heap (e .args .map) (asked e) (shadows e) (k .before .checked .result) (k .before .checked .ensures) (c .refusal2 .result) (k .if1 .left) _ _ (onHeap (free (p .p .given .0 .0 .0)) (shadows e .0)) (c .refusal2 .ensures)
+    stepped-heap (e .args .map) (asked e) (shadows e) (k .before .checked .result) (k .before .checked .ensures) _ (k .if1 .left) _ _ (onHeap (free (p .p .given .0 .0 .0)) (shadows e .0)) (c .refusal2 .ensures)
     (c .before .before .before .on-heap .ensures)
     (λ g l. free-at _ _ (shadows e) _ _ _ _ _ _ (heap-at (e .args .map) (shadows e) g l (e .args .base .0) _ (h .0) (h .1)))
 
@@ -127,7 +127,7 @@ returns-3 c =
     let e = entry (k .before) in
     let h = in-stack p in
     let t : StackShadows = (x .on-stack .last .0, x .on-stack .last .1 .0) in
-    stepped-stack (e .args .map) (asked e) (shadows e) (k .before .checked .result) (k .before .checked .ensures) (c .refusal3 .result) (k .if1 .left) t _ (onStack (free (p .p2 .given .0 .0 .0)) (shadows e .1)) (c .refusal3 .ensures)
+    stepped-stack (e .args .map) (asked e) (shadows e) (k .before .checked .result) (k .before .checked .ensures) _ (k .if1 .left) t _ (onStack (free (p .p2 .given .0 .0 .0)) (shadows e .1)) (c .refusal3 .ensures)
     (x .on-stack .ensures)
     (λ g l. free-at _ _ (shadows e) _ _ _ _ _ _ (stack-at (e .args .map) (shadows e) g l (e .args .base .0) _ (h .0) (h .1)))
 
@@ -136,7 +136,7 @@ unfolding lengthsFit
 returns-4 c =
     let k = c .before .before .before .before in
     let e = entry (k .before) in
-    stepped (e .args .map) (asked e) (shadows e) (k .before .checked .result) (k .before .checked .ensures) (c .refusal4 .result) (k .if1 .left) (shadows e) (refusal 4) (c .refusal4 .ensures)
+    stepped (e .args .map) (asked e) (shadows e) (k .before .checked .result) (k .before .checked .ensures) _ (k .if1 .left) (shadows e) (refusal 4) (c .refusal4 .ensures)
     (λ g l. free-is _ _ (shadows e) _ _ _ (out-inside (e .args .map) _ (outside (c .before))) refl)
 
 pub free-spec : {M : Type 1} → statement M

@@ -58,7 +58,7 @@ returns : tie.Need-returns
 unfolding lengthsFit
 returns c =
     let e = entry (c .before .before) in
-    refused (e .args .map) (asked e) (shadows e) _ (c .before .before .checked .ensures) (c .refusal .result) (c .before .if1 .taken) (c .refusal .ensures)
+    refused (e .args .map) (asked e) (shadows e) _ (c .before .before .checked .ensures) _ (c .before .if1 .taken) (c .refusal .ensures)
 
 refusal-requires-2 : tie.Need-refusal-requires-2
 refusal-requires-2 c κs = search needs
@@ -68,7 +68,7 @@ unfolding lengthsFit
 returns-2 c =
     let k = c .before .before in
     let e = entry (k .before) in
-    stepped (e .args .map) (asked e) (shadows e) (k .before .checked .result) (k .before .checked .ensures) (c .refusal2 .result) (k .if1 .left) (shadows e) (refusal 3) (c .refusal2 .ensures)
+    stepped (e .args .map) (asked e) (shadows e) (k .before .checked .result) (k .before .checked .ensures) _ (k .if1 .left) (shadows e) (refusal 3) (c .refusal2 .ensures)
     (λ g l. written-3 _ _ (shadows e) _ _ (c .before .if2 .taken))
 
 locate-requires : tie.Need-locate-requires
@@ -120,7 +120,7 @@ returns-3 c =
     let k = p .before .before .before .before in
     let e = entry (k .before) in
     let h = in-heap p in
-    stepped-heap (e .args .map) (asked e) (shadows e) (k .before .checked .result) (k .before .checked .ensures) (c .refusal3 .result) (k .if1 .left) _ _ (onHeap (written (p .p .given .0 .0 .0) (e .args .n)) (shadows e .0)) (c .refusal3 .ensures)
+    stepped-heap (e .args .map) (asked e) (shadows e) (k .before .checked .result) (k .before .checked .ensures) _ (k .if1 .left) _ _ (onHeap (written (p .p .given .0 .0 .0) (e .args .n)) (shadows e .0)) (c .refusal3 .ensures)
     (c .before .before .before .on-heap .ensures)
     (λ g l. written-at _ _ (shadows e) _ _ _ _ _ _ (heap-at (e .args .map) (shadows e) g l (e .args .a .0) _ (h .0) (h .1)) (e .args .n))
 
@@ -139,7 +139,7 @@ returns-4 c =
     let e = entry (k .before) in
     let h = in-stack p in
     let t : StackShadows = (x .on-stack .last .0, now (e .args .secondary)) in
-    stepped-stack (e .args .map) (asked e) (shadows e) (k .before .checked .result) (k .before .checked .ensures) (c .refusal4 .result) (k .if1 .left) t _ (onStack (written (p .p2 .given .0 .0 .0) (e .args .n)) (shadows e .1)) (c .refusal4 .ensures)
+    stepped-stack (e .args .map) (asked e) (shadows e) (k .before .checked .result) (k .before .checked .ensures) _ (k .if1 .left) t _ (onStack (written (p .p2 .given .0 .0 .0) (e .args .n)) (shadows e .1)) (c .refusal4 .ensures)
     (x .on-stack .ensures)
     (λ g l. written-at _ _ (shadows e) _ _ _ _ _ _ (stack-at (e .args .map) (shadows e) g l (e .args .a .0) _ (h .0) (h .1)) (e .args .n))
 
@@ -148,7 +148,7 @@ unfolding lengthsFit
 returns-5 c =
     let k = c .before .before .before .before .before in
     let e = entry (k .before) in
-    stepped (e .args .map) (asked e) (shadows e) (k .before .checked .result) (k .before .checked .ensures) (c .refusal5 .result) (k .if1 .left) (shadows e) (refusal 4) (c .refusal5 .ensures)
+    stepped (e .args .map) (asked e) (shadows e) (k .before .checked .result) (k .before .checked .ensures) _ (k .if1 .left) (shadows e) (refusal 4) (c .refusal5 .ensures)
     (λ g l. written-4 _ _ (shadows e) _ _ (c .before .before .before .before .if2 .left) (out-inside (e .args .map) _ (outside (c .before))))
 
 pub written-spec : {M : Type 1} → statement M

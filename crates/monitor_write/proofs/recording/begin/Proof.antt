@@ -1,5 +1,5 @@
 -- `monitor_write::recording::begin` meets its contract: one arm for each area. Assumes nothing.
-use mathlib.Core.Path.{_≡_, sym, _∙_}
+use mathlib.Core.Path.{_≡_, refl, sym, _∙_}
 use mathlib.Core.Bool.{true}
 use native.Mathlib.Omega.{arith}
 use denote.Ref.{now}
@@ -51,25 +51,19 @@ outside c = rw (c .enum-told .given .1) at (c .before .before .locate .ensures)
 checked-requires : tie.Need-checked-requires
 checked-requires c κs = search needs
 
-refusal-requires : tie.Need-refusal-requires
-refusal-requires c κs = search needs
-
 returns : tie.Need-returns
 unfolding lengthsFit
 returns c =
-    let e = entry (c .before .before) in
-    refused (e .args .map) (asked e) (shadows e) _ (c .before .before .checked .ensures) (c .refusal .result) (c .before .if1 .taken) (c .refusal .ensures)
-
-refusal-requires-2 : tie.Need-refusal-requires-2
-refusal-requires-2 c κs = search needs
+    let e = entry (c .before) in
+    refused (e .args .map) (asked e) (shadows e) _ (c .before .checked .ensures) _ (c .if1 .taken) refl
 
 returns-2 : tie.Need-returns-2
 unfolding lengthsFit
 returns-2 c =
-    let k = c .before .before in
+    let k = c .before in
     let e = entry (k .before) in
-    stepped (e .args .map) (asked e) (shadows e) (k .before .checked .result) (k .before .checked .ensures) (c .refusal2 .result) (k .if1 .left) (shadows e) (refusal 3) (c .refusal2 .ensures)
-    (λ g l. begin-3 _ _ (shadows e) _ _ _ (c .before .if2 .taken))
+    stepped (e .args .map) (asked e) (shadows e) (k .before .checked .result) (k .before .checked .ensures) (refusal 3) (k .if1 .left) (shadows e) (refusal 3) refl
+    (λ g l. begin-3 _ _ (shadows e) _ _ _ (c .if2 .taken))
 
 locate-requires : tie.Need-locate-requires
 locate-requires c κs = search needs
@@ -85,9 +79,6 @@ on-heap-requires c κs =
     let h = in-heap (c .before .before) in
     (omega (arith, b .before .before .if2 .left), heap-there (e .args .map) (shadows e) (g .0) (g .1) (e .args .base .0) _ (h .0) (h .1))
 
-refusal-requires-3 : tie.Need-refusal-requires-3
-refusal-requires-3 c κs = search needs
-
 enum-known-p-2 : tie.Need-enum-known-p-2
 enum-known-p-2 c = search needs
 
@@ -99,14 +90,8 @@ on-stack-requires c κs =
     let h = in-stack (c .before .before .before) in
     (omega (arith, b .before .before .if2 .left), stack-there (e .args .map) (shadows e) (g .0) (g .1) (e .args .base .0) _ (h .0) (h .1))
 
-refusal-requires-4 : tie.Need-refusal-requires-4
-refusal-requires-4 c κs = search needs
-
 enum-told : tie.Need-enum-told
 enum-told c = search needs
-
-refusal-requires-5 : tie.Need-refusal-requires-5
-refusal-requires-5 c κs = search needs
 
 same-length : tie.Need-same-length
 same-length c = search needs
@@ -114,12 +99,12 @@ same-length c = search needs
 returns-3 : tie.Need-returns-3
 unfolding lengthsFit
 returns-3 c =
-    let p = c .before .before .before .before .before .before in
+    let p = c .before .before .before .before .before in
     let k = p .before .before .before .before in
     let e = entry (k .before) in
     let h = in-heap p in
-    stepped-heap (e .args .map) (asked e) (shadows e) (k .before .checked .result) (k .before .checked .ensures) (c .refusal3 .result) (k .if1 .left) _ _ (onHeap (begin (e .args .written) (p .p .given .0 .0 .0) (e .args .len)) (shadows e .0)) (c .refusal3 .ensures)
-    (c .before .before .before .on-heap .ensures)
+    stepped-heap (e .args .map) (asked e) (shadows e) (k .before .checked .result) (k .before .checked .ensures) _ (k .if1 .left) _ _ (onHeap (begin (e .args .written) (p .p .given .0 .0 .0) (e .args .len)) (shadows e .0)) refl
+    (c .before .before .on-heap .ensures)
     (λ g l. begin-at _ _ (shadows e) _ _ _ _ _ _ (heap-at (e .args .map) (shadows e) g l (e .args .base .0) _ (h .0) (h .1)) (e .args .written) (e .args .len))
 
 same-length-2 : tie.Need-same-length-2
@@ -131,42 +116,37 @@ same-length-3 c = search needs
 returns-4 : tie.Need-returns-4
 unfolding lengthsFit
 returns-4 c =
-    let x = c .before .before .before .before .before in
+    let x = c .before .before .before .before in
     let p = x .before .before .before .before in
     let k = p .before .before .before .before in
     let e = entry (k .before) in
     let h = in-stack p in
     let t : StackShadows = (x .on-stack .last .0, x .on-stack .last .1 .0) in
-    stepped-stack (e .args .map) (asked e) (shadows e) (k .before .checked .result) (k .before .checked .ensures) (c .refusal4 .result) (k .if1 .left) t _ (onStack (begin (e .args .written) (p .p2 .given .0 .0 .0) (e .args .len)) (shadows e .1)) (c .refusal4 .ensures)
+    stepped-stack (e .args .map) (asked e) (shadows e) (k .before .checked .result) (k .before .checked .ensures) _ (k .if1 .left) t _ (onStack (begin (e .args .written) (p .p2 .given .0 .0 .0) (e .args .len)) (shadows e .1)) refl
     (x .on-stack .ensures)
     (λ g l. begin-at _ _ (shadows e) _ _ _ _ _ _ (stack-at (e .args .map) (shadows e) g l (e .args .base .0) _ (h .0) (h .1)) (e .args .written) (e .args .len))
 
 returns-5 : tie.Need-returns-5
 unfolding lengthsFit
 returns-5 c =
-    let k = c .before .before .before .before .before in
+    let k = c .before .before .before .before in
     let e = entry (k .before) in
-    stepped (e .args .map) (asked e) (shadows e) (k .before .checked .result) (k .before .checked .ensures) (c .refusal5 .result) (k .if1 .left) (shadows e) (refusal 4) (c .refusal5 .ensures)
-    (λ g l. begin-4 _ _ (shadows e) _ _ _ (c .before .before .before .before .if2 .left) (out-fits (e .args .map) _ _ (outside (c .before))))
+    stepped (e .args .map) (asked e) (shadows e) (k .before .checked .result) (k .before .checked .ensures) (refusal 4) (k .if1 .left) (shadows e) (refusal 4) refl
+    (λ g l. begin-4 _ _ (shadows e) _ _ _ (c .before .before .before .if2 .left) (out-fits (e .args .map) _ _ (outside c)))
 
 pub begin-spec : {M : Type 1} → statement M
 begin-spec =
     tie.close
     (tie.spec
     checked-requires
-    refusal-requires
     returns
-    refusal-requires-2
     returns-2
     locate-requires
     enum-known-p
     on-heap-requires
-    refusal-requires-3
     enum-known-p-2
     on-stack-requires
-    refusal-requires-4
     enum-told
-    refusal-requires-5
     same-length
     returns-3
     same-length-2
