@@ -75,25 +75,31 @@ unfolding fieldsOf
 no-kind k a b c d e f g h i j =
     rw (ne-eqb k 1 a, ne-eqb k 2 b, ne-eqb k 3 c, ne-eqb k 4 d, ne-eqb k 5 e, ne-eqb k 6 f, ne-eqb k 7 g, ne-eqb k 8 h, ne-eqb k 9 i, ne-eqb k 10 j)
 
+-- what holds of each kind, and of a number that is none, holds of every number
+module _ (P : ℕ → Type 0) (p1 : P 1) (p2 : P 2) (p3 : P 3) (p4 : P 4) (p5 : P 5) (p6 : P 6) (p7 : P 7) (p8 : P 8) (p9 : P 9) (p10 : P 10)
+    (other : (k : ℕ) → fieldsOf k ≡ none → P k) where
+  by-kind : (k : ℕ) → P k
+  unfolding fieldsOf
+  by-kind zero = other 0 refl
+  by-kind (suc (zero)) = p1
+  by-kind (suc (suc (zero))) = p2
+  by-kind (suc (suc (suc (zero)))) = p3
+  by-kind (suc (suc (suc (suc (zero))))) = p4
+  by-kind (suc (suc (suc (suc (suc (zero)))))) = p5
+  by-kind (suc (suc (suc (suc (suc (suc (zero))))))) = p6
+  by-kind (suc (suc (suc (suc (suc (suc (suc (zero)))))))) = p7
+  by-kind (suc (suc (suc (suc (suc (suc (suc (suc (zero))))))))) = p8
+  by-kind (suc (suc (suc (suc (suc (suc (suc (suc (suc (zero)))))))))) = p9
+  by-kind (suc (suc (suc (suc (suc (suc (suc (suc (suc (suc (zero))))))))))) = p10
+  by-kind (suc (suc (suc (suc (suc (suc (suc (suc (suc (suc (suc (k)))))))))))) =
+      let k′ : ℕ = suc (suc (suc (suc (suc (suc (suc (suc (suc (suc (suc (k))))))))))) in
+      other k′ (no-kind k′ (omega arith) (omega arith) (omega arith) (omega arith) (omega arith) (omega arith) (omega arith) (omega arith) (omega arith) (omega arith))
+
 kind-back : (k n : ℕ) (l : List ℕ) → fieldsOf k ≡ some n → kindOf (requestOf k l) ≡ k
 unfolding fieldsOf requestOf
-kind-back zero n l e = absurd (let z : _≡_ {A = ℕ} 0 1 = cc in omega arith)
-kind-back (suc zero) n l e = refl
-kind-back (suc (suc zero)) n l e = refl
-kind-back (suc (suc (suc zero))) n l e = refl
-kind-back (suc (suc (suc (suc zero)))) n l e = refl
-kind-back (suc (suc (suc (suc (suc zero))))) n l e = refl
-kind-back (suc (suc (suc (suc (suc (suc zero)))))) n l e = refl
-kind-back (suc (suc (suc (suc (suc (suc (suc zero))))))) n l e = refl
-kind-back (suc (suc (suc (suc (suc (suc (suc (suc zero)))))))) n l e = refl
-kind-back (suc (suc (suc (suc (suc (suc (suc (suc (suc zero))))))))) n l e = refl
-kind-back (suc (suc (suc (suc (suc (suc (suc (suc (suc (suc zero)))))))))) n l e = refl
-kind-back (suc (suc (suc (suc (suc (suc (suc (suc (suc (suc (suc k))))))))))) n l e =
-    let k′ : ℕ = suc (suc (suc (suc (suc (suc (suc (suc (suc (suc (suc k)))))))))) in
-    let u : fieldsOf k′ ≡ none =
-    no-kind k′ (omega arith) (omega arith) (omega arith) (omega arith) (omega arith) (omega arith) (omega arith) (omega arith) (omega arith) (omega arith) in
-    let z : _≡_ {A = ℕ} 0 1 = cc in
-    absurd (omega arith)
+kind-back k n l =
+    by-kind (λ j. fieldsOf j ≡ some n → kindOf (requestOf j l) ≡ j) (λ e. refl) (λ e. refl) (λ e. refl) (λ e. refl) (λ e. refl) (λ e. refl)
+    (λ e. refl) (λ e. refl) (λ e. refl) (λ e. refl) (λ j u e. let z : _≡_ {A = ℕ} 0 1 = cc in absurd (omega arith)) k
 
 -- kind and length of a decoded request are those that the record begins with, and the bytes have the whole record
 abbrev pub Heads : List ℕ → Request → Type 0
@@ -124,22 +130,9 @@ decoded-heads l r e = go (test (leb 4 (length l))) (fieldsOf (kindField l)) refl
 
 pub longest-holds : (k : ℕ) → lengthOf k ≤ longest
 unfolding fieldsOf
-longest-holds zero = omega arith
-longest-holds (suc zero) = omega arith
-longest-holds (suc (suc zero)) = omega arith
-longest-holds (suc (suc (suc zero))) = omega arith
-longest-holds (suc (suc (suc (suc zero)))) = omega arith
-longest-holds (suc (suc (suc (suc (suc zero))))) = omega arith
-longest-holds (suc (suc (suc (suc (suc (suc zero)))))) = omega arith
-longest-holds (suc (suc (suc (suc (suc (suc (suc zero))))))) = omega arith
-longest-holds (suc (suc (suc (suc (suc (suc (suc (suc zero)))))))) = omega arith
-longest-holds (suc (suc (suc (suc (suc (suc (suc (suc (suc zero))))))))) = omega arith
-longest-holds (suc (suc (suc (suc (suc (suc (suc (suc (suc (suc zero)))))))))) = omega arith
-longest-holds (suc (suc (suc (suc (suc (suc (suc (suc (suc (suc (suc k))))))))))) =
-    let k′ : ℕ = suc (suc (suc (suc (suc (suc (suc (suc (suc (suc (suc k)))))))))) in
-    let u : fieldsOf k′ ≡ none =
-    no-kind k′ (omega arith) (omega arith) (omega arith) (omega arith) (omega arith) (omega arith) (omega arith) (omega arith) (omega arith) (omega arith) in
-    rw u (omega arith)
+longest-holds =
+    by-kind (λ j. lengthOf j ≤ longest) (omega arith) (omega arith) (omega arith) (omega arith) (omega arith) (omega arith) (omega arith) (omega arith)
+    (omega arith) (omega arith) (λ j u. rw u (omega arith))
 
 module _ (l m : List ℕ) (h : longest ≤ length l) where
   word-front : (p w : ℕ) → p + w ≤ longest → word (at (l ++ m)) p w ≡ word (at l) p w

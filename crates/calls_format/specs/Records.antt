@@ -40,7 +40,7 @@ fieldsOf k =
     (cond (eqb k 9) (some 0)
     (cond (eqb k 10) (some 2) none)))))))))
 
--- what a record of a known kind asks for
+-- what a record of a known kind asks for; the kind that is left at the end is 9
 unfoldable pub requestOf : (kind : ℕ) → List ℕ → Request
 requestOf k l =
     cond (eqb k 1) (newMap (record { «heap_start» = field l 0; «heap_size» = field l 1; «stack_start» = field l 2; «stack_size» = field l 3 }))

@@ -17,6 +17,7 @@ use Rattle.plain.specs.Rules.{Rules}
 use Rattle.plain.specs.Ops.{Ops}
 use Rattle.plain.specs.Call.{Call, clear, begin, free, written, ask, valid, initialised, next, audit, Answer, number, refusal, Refusal, firstOf, unless}
 use Rattle.plain.specs.ShadowCalls.{askAnswer, nextAnswer, auditAnswer, reading, search, shadowsAfter, shadowAnswer}
+use Rattle.plain.proofs.RunLaws.{unless-number}
 use Rattle.shadows.specs.Shadows.{Shadows, shadowOps}
 use Rattle.monitor_base.specs.Calls.{refusals, call}
 use Rattle.demands.specs.Demand1.{NoneHolds, RefusedAltersNothing, FirstThatHolds, AcceptedExactly, LowestWins}
@@ -48,19 +49,12 @@ accepted-0 R O audit s = go (O .audit s)
     go (some (tally h k l w)) = refl
 
 module _ (m : Map) (c : Call) (s : Shadows) where
-  answers : Answer
-  answers = shadowAnswer (mapRules m) (shadowOps m) c s
-
   abbrev does : ℕ → Shadows × Answer
   does k = unless k s (shadowsAfter (mapRules m) (shadowOps m) c s, shadowAnswer (mapRules m) (shadowOps m) c s)
 
   pub number-first : number ((call m c s) .1) ≡ firstOf (refusals m c s)
   unfolding call
-  number-first = go (firstOf (refusals m c s))
-    where
-      go : (k : ℕ) → number ((does k) .1) ≡ k
-      go zero = accepted-0 (mapRules m) (shadowOps m) c s
-      go (suc k) = refl
+  number-first = unless-number (firstOf (refusals m c s)) s _ (accepted-0 (mapRules m) (shadowOps m) c s)
 
 first-none : (rs : List Refusal) → NoneHolds rs → firstOf rs ≡ 0
 first-none [] h = refl

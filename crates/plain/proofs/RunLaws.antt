@@ -14,7 +14,7 @@ use Rattle.number.proofs.TestLaws.{Test, is-true, is-false, test}
 use Rattle.plain.specs.Block.{Block, len, begun, contains}
 use Rattle.plain.specs.Blocks.{find, any, insert}
 use Rattle.plain.specs.Rules.{Rules, Placed, Sound, meets}
-use Rattle.plain.specs.Call.{Call, clear, begin, free, written, ask, valid, initialised, next, audit, number, Refusal, firstOf, unless, byRules}
+use Rattle.plain.specs.Call.{Call, clear, begin, free, written, ask, valid, initialised, next, audit, Answer, number, Refusal, firstOf, unless, byRules}
 use Rattle.plain.specs.PlainList.{byList, listAfter, listAnswer, askOf, nextOf, plainStep}
 use Rattle.plain.specs.Run.{run}
 use Rattle.plain.proofs.KeptLaws.{insert-placed, remove-placed, marks-placed}
@@ -90,7 +90,7 @@ listed-low R (next a) bs = (omega arith, tt)
 listed-low R audit bs = tt
 
 -- an accepted call has number 0
-pub accepted-0 : (R : Rules) (c : Call) (bs : List Block) → number (listAnswer R c bs) ≡ 0
+accepted-0 : (R : Rules) (c : Call) (bs : List Block) → number (listAnswer R c bs) ≡ 0
 accepted-0 R clear bs = refl
 accepted-0 R (begin w b l) bs = refl
 accepted-0 R (free x) bs = refl
@@ -109,14 +109,14 @@ accepted-0 R (next a) bs = go (find (λ b. leb a (b .base)) bs)
     go (some b) = refl
 accepted-0 R audit bs = refl
 
--- the number of an answer is the first that holds
+-- the number of an answer is the first that holds, where that of an accepted call is 0
+pub unless-number : {S : Type 0} (k : ℕ) (s : S) (r : S × Answer) → number (r .1) ≡ 0 → number ((unless k s r) .1) ≡ k
+unless-number zero s r e = e
+unless-number (suc k) s r e = refl
+
 pub number-first : (R : Rules) (c : Call) (bs : List Block) → number ((plainStep R c bs) .1) ≡ firstOf (byRules R c ++ byList R c bs)
 unfolding plainStep
-number-first R c bs = go (firstOf (byRules R c ++ byList R c bs))
-  where
-    go : (k : ℕ) → number ((unless k bs (listAfter c bs, listAnswer R c bs)) .1) ≡ k
-    go zero = accepted-0 R c bs
-    go (suc k) = refl
+number-first R c bs = unless-number (firstOf (byRules R c ++ byList R c bs)) bs (listAfter c bs, listAnswer R c bs) (accepted-0 R c bs)
 
 pub low : (R : Rules) (c : Call) (bs : List Block) → number ((plainStep R c bs) .1) < 8
 low R c bs = rw (number-first R c bs) (first-low (byRules R c ++ byList R c bs) (listed-low R c bs))
