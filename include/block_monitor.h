@@ -36,7 +36,7 @@ enum block_monitor_number {
     BLOCK_MONITOR_BAD_MAP = 1,       /* the map breaks a rule */
     BLOCK_MONITOR_SHADOW_LENGTH = 2, /* a shadow is not as long as its area */
     BLOCK_MONITOR_NO_BYTES = 3,      /* length or n is 0 */
-    BLOCK_MONITOR_OUTSIDE = 4,       /* in neither area; record: block or heap header does not fit its area */
+    BLOCK_MONITOR_OUTSIDE = 4,       /* in neither area, but for free of 0; record: block or heap header does not fit its area */
     BLOCK_MONITOR_UNALIGNED = 5,     /* record: the heap base is no multiple of 8 */
     BLOCK_MONITOR_OCCUPIED = 6,      /* record: the place, with its header, is not free */
     BLOCK_MONITOR_NO_BLOCK = 7,      /* no block there; free: not its first byte; written: not all in one; next: none follows */
@@ -63,7 +63,10 @@ uint32_t block_monitor_record(const uint32_t map[4], uint8_t *heap, size_t heap_
 uint32_t block_monitor_record_written(const uint32_t map[4], uint8_t *heap, size_t heap_length, uint8_t *primary, size_t primary_length,
                                       uint8_t *secondary, size_t secondary_length, uint32_t base, uint32_t length, uint32_t fields[4]);
 
-/* The block with this base ends. */
+/*
+ * The block with this base ends. Of 0, the null pointer's address, it is accepted and does nothing, as C's free: after 1 and 2 it looks no
+ * further. So no other pointer may be told as 0; every other address in neither area is refused.
+ */
 uint32_t block_monitor_free(const uint32_t map[4], uint8_t *heap, size_t heap_length, uint8_t *primary, size_t primary_length,
                             uint8_t *secondary, size_t secondary_length, uint32_t base, uint32_t fields[4]);
 

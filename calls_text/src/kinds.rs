@@ -35,7 +35,10 @@ pub const KINDS: &[Kind] = &[
         word: "free",
         fields: &["base"],
         answers: &[],
-        told: |f, _| format!("freed: the block at {}", f[0]),
+        told: |f, _| match f[0] {
+            0 => "nothing freed: address 0 is the null pointer".to_owned(),
+            base => format!("freed: the block at {base}"),
+        },
     },
     Kind {
         number: 4,

@@ -45,7 +45,11 @@ fn traces() {
 /// Inputs with the output that the specification gives for them.
 #[test]
 fn stated_examples() {
-    for (name, least) in [("open-points.txt", 16), ("record-written.txt", 16)] {
+    for (name, least) in [
+        ("open-points.txt", 16),
+        ("record-written.txt", 16),
+        ("free-null.txt", 21),
+    ] {
         let text = String::from_utf8(bytes(&format!("model/tests/data/{name}"))).expect("text");
         let mut runs = 0;
         for (remark, line, example) in model::notation::examples(&text) {

@@ -33,6 +33,10 @@ fn accepted_lines() {
     );
     assert_eq!(meaning("free 4104", "3 0"), "freed: the block at 4104");
     assert_eq!(
+        meaning("free 0", "3 0"),
+        "nothing freed: address 0 is the null pointer"
+    );
+    assert_eq!(
         meaning("written 4108 6", "4 0"),
         "marked as written: 4108 to 4113"
     );
@@ -97,6 +101,11 @@ fn refused_lines() {
     assert_eq!(
         meaning("free 4105", "3 7"),
         "refused by 7: no block has this base"
+    );
+    assert_eq!(meaning("free 0", "3 1"), "refused by 1: no good map yet");
+    assert_eq!(
+        meaning("free 1", "3 4"),
+        "refused by 4: address in neither area"
     );
     assert_eq!(
         meaning("map 0 0 0 0", "1 1"),

@@ -67,7 +67,7 @@ uint32_t address_of(const void *pointer)
         return HEAP_START + (uint32_t)(byte - heap_byte);
     if (byte >= stack_byte && byte - stack_byte < STACK_SIZE)
         return STACK_START + (uint32_t)(byte - stack_byte);
-    return 0;
+    return pointer == NULL ? 0 : NOWHERE;
 }
 
 /* The bytes of the free unit at a place and of the free units right behind it. */
@@ -104,8 +104,11 @@ void *heap_allocate(uint32_t length)
 
 void heap_release(const void *pointer)
 {
-    uint32_t place = address_of(pointer) - HEAP_START - BLOCK_MONITOR_HEADER;
+    uint32_t place;
 
+    if (pointer == NULL)
+        return;
+    place = address_of(pointer) - HEAP_START - BLOCK_MONITOR_HEADER;
     put_unit(place, unit_at(place).size, 0);
 }
 

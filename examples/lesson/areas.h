@@ -18,11 +18,17 @@ extern const struct block_monitor monitor;
 /* Before anything else: empty heap, empty stack. */
 void areas_start(void);
 
-/* The address of a byte of either area; 0, which no area holds, for any other pointer. */
+/*
+ * The address of a byte of either area; 0 for NULL; NOWHERE for any other pointer. No area holds these two, and they must differ: free of 0 is
+ * accepted, and the release of a stray pointer must not be.
+ */
+enum { NOWHERE = 1 };
 uint32_t address_of(const void *pointer);
 
 /* First fit. The base is a multiple of 8, and the 8 bytes before it are no other block's. NULL if there is no room. */
 void *heap_allocate(uint32_t length);
+
+/* As C's free: of NULL it does nothing. */
 void heap_release(const void *pointer);
 
 /* Automatic objects: the next length bytes, from a multiple of 4 on; popping one pops all that came after it. NULL if there is no room. */

@@ -139,7 +139,8 @@ void check_free(const char *what, const void *pointer, struct place where)
     uint32_t number = monitor_free(&monitor, address);
 
     if (number == BLOCK_MONITOR_ACCEPTED) {
-        remember(block, where);
+        if (asked == BLOCK_MONITOR_ACCEPTED) /* with NULL no block ends */
+            remember(block, where);
         return;
     }
     print_call(what, where);

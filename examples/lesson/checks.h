@@ -25,7 +25,7 @@ struct place {
 /* Before a static object is first used: C has zeroed it, so that it may be read at once. */
 #define CHECK_STATIC(pointer, length) check_static(pointer, length, HERE)
 
-/* Before a heap block is given back. */
+/* Before a heap block is given back; a pointer that is NULL passes, as it does with C's free. */
 #define CHECK_FREE(pointer) check_free("release", pointer, HERE)
 
 /* Where an automatic object ends; for a static one, at the end of the program. */

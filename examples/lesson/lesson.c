@@ -20,11 +20,12 @@ enum { WORDS = 3, TRIES = 2, LETTERS = 8 };
 static const struct word {
     const char *prompt;
     const char *solution;
+    const char *hint;         /* after a wrong try; NULL for most words */
     const char *typed[TRIES]; /* what the learner types, try by try */
 } words[WORDS] = {
-    {"rumah", "house", {"horse", "house"}},
-    {"membaca", "to read", {"read", ""}},
-    {"matahari", "sun", {"sunshine", "sun"}},
+    {"rumah", "house", NULL, {"horse", "house"}},
+    {"membaca", "to read", NULL, {"read", ""}},
+    {"matahari", "sun", "three letters", {"sunshine", "sun"}},
 };
 
 /* The record of a learner's answer. */
@@ -37,12 +38,16 @@ struct answer {
 /* How many letters the learner has typed. A static object: zero before anything is written to it. */
 static uint32_t *letters_typed;
 
-/* A text of the course, on the heap. */
+/* A text of the course, on the heap; NULL where the course has none. */
 static char *new_text(const char *constant)
 {
-    uint32_t length = (uint32_t)strlen(constant) + 1;
-    char *text = heap_allocate(length);
+    uint32_t length;
+    char *text;
 
+    if (constant == NULL)
+        return NULL;
+    length = (uint32_t)strlen(constant) + 1;
+    text = heap_allocate(length);
     CHECK_RECORD(text, length);
     CHECK_WRITE(text, length, text);
     memcpy(text, constant, length);
@@ -70,6 +75,15 @@ static void print_text(const char *text)
             return;
         putchar(text[i]);
     }
+}
+
+static void print_hint(const char *hint)
+{
+    if (hint == NULL)
+        return;
+    printf("hint: ");
+    print_text(hint);
+    printf("\n");
 }
 
 static uint32_t same_text(const char *a, const char *b)
@@ -170,6 +184,7 @@ static void exercise(uint32_t word, uint32_t *points, uint32_t *tries)
 {
     char *prompt = new_text(words[word].prompt);
     char *solution = new_text(words[word].solution);
+    char *hint = new_text(words[word].hint);
     char *stem = stem_of(solution);
     char *typed = stack_push(LETTERS);
     CHECK_RECORD(typed, LETTERS);
@@ -182,7 +197,7 @@ static void exercise(uint32_t word, uint32_t *points, uint32_t *tries)
         heap_release(solution);
     }
     while (try_word(answer, prompt, stem, typed))
-        ;
+        print_hint(hint);
     give_points(answer, points, tries);
 
     CHECK_LEAVE(answer);
@@ -190,6 +205,8 @@ static void exercise(uint32_t word, uint32_t *points, uint32_t *tries)
     stack_pop(typed);
     CHECK_FREE(prompt);
     heap_release(prompt);
+    CHECK_FREE(hint); /* NULL for most words: nothing happens */
+    heap_release(hint);
     if (MISTAKE == 4) { /* 4: released here and once more below */
         CHECK_FREE(solution);
         heap_release(solution);

@@ -8,7 +8,7 @@ use crate::block::{footprint, placement};
 use crate::call::{refusal, Answer, Call, Outcome, NO_FIELDS};
 use crate::decode::decode;
 use crate::image::{stack_code, EIGHT, LONGEST_SHORT};
-use crate::map::{Area, Map};
+use crate::map::{Area, Map, NULL};
 use crate::plain::{not_zero, totals};
 use crate::reading::{Reading, View};
 
@@ -137,6 +137,10 @@ impl Lent<'_> {
     }
 
     fn free(&mut self, base: u32) -> Outcome {
+        // No byte is read or altered here, so damage does not show (S-2).
+        if base == NULL {
+            return Ok(NO_FIELDS);
+        }
         let area = self.map.area(base).ok_or(refusal::OUTSIDE)?;
         let found = self.view().read(base).block()?;
         let found = found.filter(|found| found.offset == 0);

@@ -1,5 +1,7 @@
 //! The calls, their answers, and the numbers of refusal.
 
+use crate::map::NULL;
+
 /// The numbers of refusal, in the order in which the lowest wins.
 pub mod refusal {
     pub const BAD_MAP: u32 = 1;
@@ -41,9 +43,10 @@ impl Call {
         }
     }
 
-    /// Whether the call only looks: it leaves every shadow byte as it was.
-    pub fn only_looks(self) -> bool {
-        self.answer_fields() > 0
+    /// Whether the call leaves every shadow byte as it was, accepted or not:
+    /// those that only look, and free of the null pointer.
+    pub fn alters_nothing(self) -> bool {
+        self.answer_fields() > 0 || self == Call::Free { base: NULL }
     }
 
     /// The call's kind and fields in a calls file; clear has no kind of its own.

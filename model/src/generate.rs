@@ -7,7 +7,7 @@ pub mod shadows;
 
 use crate::block::Block;
 use crate::call::Call;
-use crate::map::{Area, Map};
+use crate::map::{Area, Map, NULL};
 use crate::random::Random;
 
 /// How large the areas of a generated map are.
@@ -169,12 +169,16 @@ fn block_edge(random: &mut Random, map: Map, blocks: &[Block]) -> u32 {
     }
 }
 
-/// A block's base mostly; freeing anything else is refused.
+/// A block's base mostly, or the null pointer; freeing anything else is
+/// refused, even the addresses next to the null pointer.
 fn first_byte(random: &mut Random, map: Map, blocks: &[Block]) -> u32 {
-    if blocks.is_empty() || random.once_in(3) {
-        return address(random, map, blocks);
+    match random.below(15) {
+        0 | 1 => NULL,
+        2 => random.between(1, 7),
+        3..=6 => address(random, map, blocks),
+        _ if blocks.is_empty() => address(random, map, blocks),
+        _ => blocks[random.below(blocks.len() as u64) as usize].base,
     }
-    blocks[random.below(blocks.len() as u64) as usize].base
 }
 
 /// The first places after a block where another may or may not stand.

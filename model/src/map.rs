@@ -5,6 +5,9 @@ use std::ops::Range;
 /// Starts and sizes are multiples of this, and so is a heap segment's size.
 pub const SEGMENT: u64 = 8;
 
+/// The null pointer's address; no start is this low, so no area holds it.
+pub const NULL: u32 = 0;
+
 const LOWEST_START: u64 = 8;
 const LOWEST_SIZE: u64 = 16;
 const HIGHEST_HEAP_SIZE: u64 = 131_072;

@@ -4,7 +4,7 @@
 
 use crate::block::{footprint, meet, placement, Block};
 use crate::call::{refusal, Answer, Call, Outcome, NO_FIELDS};
-use crate::map::{Area, Map};
+use crate::map::{Area, Map, NULL};
 
 /// What the paper calls the plain list, whatever holds its blocks.
 pub trait List {
@@ -88,6 +88,10 @@ impl PlainList {
     }
 
     fn free(&mut self, base: u32) -> Outcome {
+        // As in C, freeing the null pointer does nothing (S-2).
+        if base == NULL {
+            return Ok(NO_FIELDS);
+        }
         self.map.area(base).ok_or(refusal::OUTSIDE)?;
         let index = self.blocks.iter().position(|block| block.base == base);
         self.blocks.remove(index.ok_or(refusal::NO_BLOCK)?);

@@ -4,7 +4,7 @@ use std::collections::BTreeMap;
 
 use crate::block::{footprint, meet, placement, Block};
 use crate::call::{refusal, Answer, Call, Outcome, NO_FIELDS};
-use crate::map::Map;
+use crate::map::{Map, NULL};
 use crate::plain::{not_zero, totals, List};
 
 /// The plain list on a balanced tree, a peer for timing.
@@ -71,6 +71,10 @@ impl PlainTree {
     }
 
     fn free(&mut self, base: u32) -> Outcome {
+        // As in C, freeing the null pointer does nothing (S-2).
+        if base == NULL {
+            return Ok(NO_FIELDS);
+        }
         self.map.area(base).ok_or(refusal::OUTSIDE)?;
         self.blocks.remove(&base).ok_or(refusal::NO_BLOCK)?;
         Ok(NO_FIELDS)

@@ -34,7 +34,7 @@ fn every_example_of_the_open_points() {
 
 #[test]
 fn document_01() {
-    assert_eq!(check("document-01.txt"), 66);
+    assert_eq!(check("document-01.txt"), 67);
 }
 
 #[test]
@@ -45,4 +45,9 @@ fn odd_bytes() {
 #[test]
 fn record_written() {
     assert_eq!(check("record-written.txt"), 85);
+}
+
+#[test]
+fn free_null() {
+    assert_eq!(check("free-null.txt"), 64);
 }

@@ -104,7 +104,7 @@ fn calls_follow_readings(random: &mut Random, map: Map, bytes: &Shadows) {
 fn changes_stay_inside(map: Map, bytes: &Shadows, call: Call) {
     let mut shadows = bytes.clone();
     let answer = on(map, &mut shadows, call);
-    if answer.number != 0 || call.only_looks() {
+    if answer.number != 0 || call.alters_nothing() {
         assert!(shadows == *bytes, "{call:?}");
     }
     match call {

@@ -27,7 +27,7 @@ fn run(random: &mut Random, map: Map, calls: u32, met: &mut Met) {
     let mut shadows = Shadows::cleared(map);
     for _ in 0..calls {
         let call = generate::call(random, map, list.blocks());
-        let before = call.only_looks().then(|| shadows.clone());
+        let before = call.alters_nothing().then(|| shadows.clone());
         let answer = on(map, &mut shadows, call);
         assert_eq!(list.step(call), answer, "{map:?} {call:?}");
         assert_eq!(tree.step(call), answer, "tree, {map:?} {call:?}");

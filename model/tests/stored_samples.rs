@@ -19,13 +19,14 @@ use model::reading::View;
 use model::samples::{answered, LONGEST_LINE};
 
 /// The files of tests/data whose right-hand sides are stated.
-const STATED: [&str; 6] = [
+const STATED: [&str; 7] = [
     "document-01.txt",
     "open-points.txt",
     "damage.txt",
     "near-damage.txt",
     "odd-bytes.txt",
     "record-written.txt",
+    "free-null.txt",
 ];
 
 fn stored(name: &str) -> String {
@@ -126,6 +127,19 @@ fn table_1_is_stored_in_both_directions() {
             stated
         );
     }
+}
+
+/// Free of the null pointer alters no byte, so its samples tell none.
+#[test]
+fn free_of_0_changes_nothing() {
+    let mut samples = 0;
+    for (question, side) in right_hand_sides() {
+        if question.starts_with("on:") && question.ends_with(": free 0") {
+            assert_eq!(side, "0", "{question}");
+            samples += 1;
+        }
+    }
+    assert!(samples > 15, "{samples} samples");
 }
 
 /// Where the given bytes are an image, the plain list answers alike.

@@ -90,7 +90,8 @@ none-first (r ∷ rs) h e = go (test (r .1)) (none-first rs (h .1))
 named : (m : Map) (c : Call) (s : Shadows) → Named (refusals m c s)
 named m clear s = (omega arith, (omega arith, tt))
 named m (begin w b l) s = (omega arith, (omega arith, (omega arith, (omega arith, (omega arith, (omega arith, tt))))))
-named m (free x) s = (omega arith, (omega arith, (omega arith, (omega arith, (omega arith, tt)))))
+named m (free zero) s = (omega arith, (omega arith, tt))
+named m (free (suc x)) s = (omega arith, (omega arith, (omega arith, (omega arith, (omega arith, tt)))))
 named m (written a n) s = (omega arith, (omega arith, (omega arith, (omega arith, (omega arith, (omega arith, tt))))))
 named m (ask a) s = (omega arith, (omega arith, (omega arith, (omega arith, (omega arith, tt)))))
 named m (valid a n from) s = (omega arith, (omega arith, (omega arith, (omega arith, tt))))
@@ -167,7 +168,8 @@ tried-in-order : (m : Map) (c : Call) (s : Shadows) → inOrder (refusals m c s)
 unfolding inOrder allGo goes
 tried-in-order m clear s = refl
 tried-in-order m (begin w b l) s = refl
-tried-in-order m (free x) s = refl
+tried-in-order m (free zero) s = refl
+tried-in-order m (free (suc x)) s = refl
 tried-in-order m (written a n) s = refl
 tried-in-order m (ask a) s = refl
 tried-in-order m (valid a n from) s = refl

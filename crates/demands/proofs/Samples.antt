@@ -17,11 +17,11 @@ use Rattle.stack_layout.specs.Code.{shortCode, pieceOf, codeOf, pieceByte, prim
 use Rattle.stack_layout.specs.Image.{primaryOwn, secondaryOwn}
 use Rattle.stack_layout.specs.Reading.{fitted, badPiece, longReading, codeReading, stackReading}
 use Rattle.stack_layout.specs.Walk.{isClear, isByte, lengthAt, stackWalk}
-use Rattle.stack_layout.specs.Ops.{stackVacant, stackStamp}
+use Rattle.stack_layout.specs.Ops.{stackVacant, stackStamp, stackErase, stackMark}
 use Rattle.shadows.specs.Shadows.{lengthsFit}
 use Rattle.monitor_base.specs.Calls.{call}
 use Rattle.demands.specs.Samples.{sameBytes, runHolds, allHold, table, edges, begunWritten, SamplesHold}
 
 pub samples-hold : SamplesHold
-unfolding byteOf word bitOf withBit ofBits ones tab zeros over goodArea apart goodMap segments total layer markRange rangeMarked readAny climb cellByte covers own heapByte heapReading agree matches marksAt heapWalk placeLength heapVacant heapStamp heapErase heapMark heapMarked shortCode pieceOf codeOf pieceByte primaryOf secondaryOf lengthFrom shortLength shortOffset primaryOwn secondaryOwn fitted badPiece longReading codeReading stackReading isClear isByte lengthAt stackWalk stackVacant stackStamp lengthsFit call sameBytes runHolds allHold table edges begunWritten
+unfolding byteOf word bitOf withBit ofBits ones tab zeros over goodArea apart goodMap segments total layer markRange rangeMarked readAny climb cellByte covers own heapByte heapReading agree matches marksAt heapWalk placeLength heapVacant heapStamp heapErase heapMark heapMarked shortCode pieceOf codeOf pieceByte primaryOf secondaryOf lengthFrom shortLength shortOffset primaryOwn secondaryOwn fitted badPiece longReading codeReading stackReading isClear isByte lengthAt stackWalk stackVacant stackStamp stackErase stackMark lengthsFit call sameBytes runHolds allHold table edges begunWritten
 samples-hold = (refl, refl, refl)

@@ -118,7 +118,8 @@ table =
     }
     ∷ []
 
--- ---- what follows from arguments and map, at the edges: shared by the plain list and the shadows, and so decided by reading and by these
+-- ---- what follows from arguments and map, at the edges: shared by the plain list and the shadows, and so decided by reading, by these, and
+-- for free by `Null.FreeOfNull` and `FreeOutside`
 
 unfoldable pub edges : List Sample
 edges =
@@ -137,8 +138,29 @@ edges =
     ∷ one (record-block 4157 4) (refusal 4)
     ∷ one (record-block 4100 4) (refusal 4)
     ∷ one (record-block 4103 1) (refusal 4)
-    -- outside both areas: 4 for free, written and ask, no block for valid and initialised
-    ∷ one (free 0) (refusal 4)
+    -- free of address 0 is accepted, of any other outside address it is refused
+    ∷ one (free 0) done
+    ∷ one (free 1) (refusal 4)
+    ∷ one (free 4095) (refusal 4)
+    ∷ one (free 4294967295) (refusal 4)
+    -- free of address 0 alters no byte; written and ask refuse that address
+    ∷ record {
+      calls =
+          record-block 4104 2 ∷ written 4105 1 ∷ record-block 8192 9 ∷ written 8193 1 ∷ free 0 ∷ written 0 1 ∷ ask 0 ∷ free 0 ∷ audit ∷ [];
+      answers = done ∷ done ∷ done ∷ done ∷ done ∷ refusal 4 ∷ refusal 4 ∷ done ∷ answer 0 1 1 11 2 ∷ [];
+      heap = (0, (0 ∷ 0 ∷ 0 ∷ 0 ∷ 2 ∷ 0 ∷ 0 ∷ 0 ∷ []) ++ (1 ∷ 0 ∷ 0 ∷ 0 ∷ 2 ∷ 0 ∷ 0 ∷ 0 ∷ []) ++ zeros8);
+      primary = (0, 192 ∷ 197 ∷ 200 ∷ 204 ∷ 208 ∷ 212 ∷ 216 ∷ 220 ∷ 224 ∷ 0 ∷ []);
+      secondary = (0, 9 ∷ 0 ∷ 0 ∷ 0 ∷ 0 ∷ 0 ∷ 0 ∷ 0 ∷ 0 ∷ []);
+    }
+    -- position 0 of an area is not address 0: a block that begins there is freed, and without one there is none to free
+    ∷ record {
+      calls = record-block 8192 9 ∷ free 8192 ∷ free 8192 ∷ free 4096 ∷ [];
+      answers = done ∷ done ∷ refusal 7 ∷ refusal 7 ∷ [];
+      heap = (0, []);
+      primary = (0, zeros8 ++ (0 ∷ []));
+      secondary = (0, zeros8);
+    }
+    -- outside both areas: 4 for written and ask, no block for valid and initialised
     ∷ one (written 4160 1) (refusal 4)
     ∷ one (ask 8224) (refusal 4)
     ∷ one (valid 0 1 0) (answer 0 0 0 0 0)

@@ -5,16 +5,16 @@ use mathlib.Core.List.{_++_}
 use Prim.Native.Nat.{ℕ, zero, suc, _+_, _-_, _≤_, _<_}
 use native.Mathlib.Omega.{arith}
 use lib.Dec.{eqb}
-use Rattle.number.proofs.TestLaws.{Test, is-true, is-false, test, same-test}
+use Rattle.number.proofs.TestLaws.{Test, is-true, is-false, test, same-test, not-both}
 use Rattle.plain.specs.Block.{begun}
 use Rattle.plain.specs.Rules.{Rules}
 use Rattle.plain.specs.Reading.{Reading, nothing, block, damaged}
 use Rattle.plain.specs.Lift.{Shifted, readingUp}
 use Rattle.plain.specs.Ops.{Ops, markRange, readAny}
 use Rattle.plain.specs.Call.{Call, begin, free, written, Answer, done, firstOf, unless, byRules}
-use Rattle.plain.specs.ShadowCalls.{isDamaged, inOne, byShadows, shadowsAfter, shadowStep}
+use Rattle.plain.specs.ShadowCalls.{isDamaged, inOne, lengthOf, byShadows, shadowsAfter, shadowStep}
 use Rattle.plain.proofs.LiftLaws.{Unshifted}
-use Rattle.monitor_write.specs.AreaCalls.{writtenRefusal}
+use Rattle.monitor_write.specs.AreaCalls.{freeRefusal, writtenRefusal, freeAt}
 use Rattle.monitor_write.proofs.StepLaws.{freed, free-is, written-is}
 
 -- ---- an area's rules at a position
@@ -105,10 +105,11 @@ module _ {S X : Type 0} (R : Rules) (O : Ops S) (s : S) (a : ℕ) (E : Rules) (P
   unfolding readAny
   here = rw (i .inside-there)
 
-  pub free-at : shadowStep R O (free a) s ≡ beside put (shadowStep E P (free p) x)
-  free-at = free-is R O s a true _ (i .inside) there ∙ go (P .read x p) ∙ sym (ap (beside put) (free-is E P x p true _ (i .inside-there) here))
+  -- where no area holds address 0
+  pub free-at : R .inside 0 ≡ false → shadowStep R O (free a) s ≡ beside put (freeAt P p x)
+  free-at n = free-is R O s a (λ z. not-both (R .inside a) (i .inside) (ap (R .inside) z ∙ n)) true _ (i .inside) there ∙ go (P .read x p)
     where
-      go : (r : Reading) → freed R O s a true (readingUp (i .start) r) ≡ beside put (freed E P x p true r)
+      go : (r : Reading) → freed R O s a true (readingUp (i .start) r) ≡ beside put (unless (freeRefusal r) x (P .erase x p (lengthOf r), done))
       go nothing = rw (i .whole)
       go damaged = rw (i .whole)
       go (block b l o w) = beside-same _ (cond (not (eqb o 0)) 7 0) _ (P .erase x p l) refl (λ z. i .erase l)

@@ -12,7 +12,24 @@ use Rattle.plain.specs.Reading.{Reading}
 use Rattle.plain.specs.Ops.{Ops, markRange, readAny}
 use Rattle.plain.specs.Call.{Call, begin, free, written, Answer, refusal, done, firstOf, unless}
 use Rattle.plain.specs.ShadowCalls.{isDamaged, isFirst, inOne, lengthOf, shadowStep}
-use Rattle.monitor_write.specs.AreaCalls.{freeRefusal, writtenRefusal}
+use Rattle.monitor_write.specs.AreaCalls.{freeRefusal, writtenRefusal, freeAt}
+
+-- refused by a number that is known by an equation, or accepted
+module _ {S : Type 0} (s : S) where
+  by-number : (j k : ℕ) (x : S × Answer) → k ≡ j → k ≢ 0 → unless j s x ≡ (s, refusal k)
+  by-number zero k x e n = absurd (n e)
+  by-number (suc j) k x e n = rw e
+
+  by-zero : (j k : ℕ) (t u : S) → k ≡ j → k ≡ 0 → u ≡ t → unless j s (t, done) ≡ (u, refusal k)
+  by-zero j k t u e z h = rw (← e, z, h)
+
+-- free at a position, and the number k that the reading there decides
+module _ {S : Type 0} (O : Ops S) (s : S) (p k : ℕ) (q : k ≡ freeRefusal (O .read s p)) where
+  pub free-refused : k ≢ 0 → freeAt O p s ≡ (s, refusal k)
+  free-refused n = by-number s (freeRefusal (O .read s p)) k (O .erase s p (lengthOf (O .read s p)), done) q n
+
+  pub free-done : k ≡ 0 → (l : ℕ) → l ≡ lengthOf (O .read s p) → (t : S) → t ≡ O .erase s p l → freeAt O p s ≡ (t, refusal k)
+  free-done z l e t h = by-zero s (freeRefusal (O .read s p)) k (O .erase s p (lengthOf (O .read s p))) t q z (h ∙ ap (O .erase s p) e)
 
 module _ {S : Type 0} (R : Rules) (O : Ops S) (s : S) where
   abbrev step : Call → S × Answer
@@ -40,23 +57,24 @@ module _ {S : Type 0} (R : Rules) (O : Ops S) (s : S) where
     unfolding shadowStep
     begin-0 n f a v t e = rw (ne-eqb l 0 n, f, a, v, e)
 
-  -- refused by a number that is known by an equation, or accepted
-  by-number : (j k : ℕ) (x : S × Answer) → k ≡ j → k ≢ 0 → unless j s x ≡ (s, refusal k)
-  by-number zero k x e n = absurd (n e)
-  by-number (suc j) k x e n = rw e
+  -- what free does, by whether the address lies in an area and by what is read there
+  abbrev pub freed : (a : ℕ) → Bool → Reading → S × Answer
+  freed a i r = unless (firstOf ((4, not i) ∷ (8, isDamaged r) ∷ (7, not (isFirst r)) ∷ [])) s (O .erase s a (lengthOf r), done)
 
-  by-zero : (j k : ℕ) (t u : S) → k ≡ j → k ≡ 0 → u ≡ t → unless j s (t, done) ≡ (u, refusal k)
-  by-zero j k t u e z h = rw (← e, z, h)
+  pub free-is : (a : ℕ) → a ≢ 0 → (i : Bool) (r : Reading) → R .inside a ≡ i → readAny R O s a ≡ r → step (free a) ≡ freed a i r
+  unfolding shadowStep
+  free-is zero n i r e h = absurd (n refl)
+  free-is (suc a) n i r e h = ap (freed (suc a) (R .inside (suc a))) h ∙ ap (λ (x : Bool). freed (suc a) x r) e
+
+  pub free-4 : (a : ℕ) → a ≢ 0 → R .inside a ≡ false → step (free a) ≡ (s, refusal 4)
+  free-4 a n i = free-is a n false (readAny R O s a) i refl
+
+  -- C's null pointer
+  pub free-null : (a : ℕ) → a ≡ 0 → step (free a) ≡ (s, done)
+  unfolding shadowStep
+  free-null a e = rw e
 
   module _ (a : ℕ) where
-    -- what is done, by whether the address lies in an area and by what is read there
-    abbrev pub freed : Bool → Reading → S × Answer
-    freed i r = unless (firstOf ((4, not i) ∷ (8, isDamaged r) ∷ (7, not (isFirst r)) ∷ [])) s (O .erase s a (lengthOf r), done)
-
-    pub free-is : (i : Bool) (r : Reading) → R .inside a ≡ i → readAny R O s a ≡ r → step (free a) ≡ freed i r
-    unfolding shadowStep
-    free-is i r e h = ap (freed (R .inside a)) h ∙ ap (λ (x : Bool). freed x r) e
-
     abbrev pub marks : (n : ℕ) → Bool → Reading → S × Answer
     marks n i r = unless (firstOf ((3, eqb n 0) ∷ (4, not i) ∷ (8, isDamaged r) ∷ (7, not (inOne n r)) ∷ [])) s (markRange O s a n, done)
 
@@ -72,20 +90,12 @@ module _ {S : Type 0} (R : Rules) (O : Ops S) (s : S) where
     written-4 n m i = written-is n false (readAny R O s a) i refl ∙ rw (ne-eqb n 0 m)
 
     -- an address of an area, its reading, and the number k that the reading decides
-    module _ (i : R .inside a ≡ true) (r : Reading) (e : readAny R O s a ≡ r) (k : ℕ) where
-      module _ (q : k ≡ freeRefusal r) where
-        pub free-refused : k ≢ 0 → step (free a) ≡ (s, refusal k)
-        free-refused n = free-is true r i e ∙ by-number (freeRefusal r) k (O .erase s a (lengthOf r), done) q n
+    module _ (i : R .inside a ≡ true) (r : Reading) (e : readAny R O s a ≡ r) (k : ℕ) (n : ℕ) (m : n ≢ 0) (q : k ≡ writtenRefusal n r) where
+      marked : step (written a n) ≡ unless (writtenRefusal n r) s (markRange O s a n, done)
+      marked = written-is n true r i e ∙ rw (ne-eqb n 0 m)
 
-        pub free-done : k ≡ 0 → (l : ℕ) → l ≡ lengthOf r → (t : S) → t ≡ O .erase s a l → step (free a) ≡ (t, refusal k)
-        free-done z l p t h = free-is true r i e ∙ by-zero (freeRefusal r) k (O .erase s a (lengthOf r)) t q z (h ∙ ap (O .erase s a) p)
+      pub written-refused : k ≢ 0 → step (written a n) ≡ (s, refusal k)
+      written-refused x = marked ∙ by-number s (writtenRefusal n r) k (markRange O s a n, done) q x
 
-      module _ (n : ℕ) (m : n ≢ 0) (q : k ≡ writtenRefusal n r) where
-        marked : step (written a n) ≡ unless (writtenRefusal n r) s (markRange O s a n, done)
-        marked = written-is n true r i e ∙ rw (ne-eqb n 0 m)
-
-        pub written-refused : k ≢ 0 → step (written a n) ≡ (s, refusal k)
-        written-refused x = marked ∙ by-number (writtenRefusal n r) k (markRange O s a n, done) q x
-
-        pub written-done : k ≡ 0 → (t : S) → t ≡ markRange O s a n → step (written a n) ≡ (t, refusal k)
-        written-done z t h = marked ∙ by-zero (writtenRefusal n r) k (markRange O s a n) t q z h
+      pub written-done : k ≡ 0 → (t : S) → t ≡ markRange O s a n → step (written a n) ≡ (t, refusal k)
+      written-done z t h = marked ∙ by-zero s (writtenRefusal n r) k (markRange O s a n) t q z h

@@ -5,8 +5,9 @@ use Prim.Native.Nat.{ℕ}
 use lib.ListN.{length}
 use Rattle.plain.specs.Areas.{heapRules, stackRules}
 use Rattle.plain.specs.Reading.{Reading}
-use Rattle.plain.specs.Call.{Call, Answer, firstOf}
-use Rattle.plain.specs.ShadowCalls.{isDamaged, isFirst, inOne, shadowStep}
+use Rattle.plain.specs.Ops.{Ops}
+use Rattle.plain.specs.Call.{Call, Answer, done, firstOf, unless}
+use Rattle.plain.specs.ShadowCalls.{isDamaged, isFirst, inOne, lengthOf, shadowStep}
 use Rattle.heap_layout.specs.Ops.{heapOps}
 use Rattle.stack_layout.specs.Ops.{StackShadows, stackOps}
 
@@ -17,6 +18,17 @@ freeRefusal r = firstOf ((8, isDamaged r) ∷ (7, not (isFirst r)) ∷ [])
 abbrev pub writtenRefusal : (n : ℕ) → Reading → ℕ
 writtenRefusal n r = firstOf ((8, isDamaged r) ∷ (7, not (inOne n r)) ∷ [])
 
+-- free by a position, not an address: position 0 is the area's first byte, not C's null pointer, and has no case of its own
+abbrev pub freeAt : {S : Type 0} → Ops S → (p : ℕ) → S → S × Answer
+freeAt O p s = unless (freeRefusal (O .read s p)) s (O .erase s p (lengthOf (O .read s p)), done)
+
+abbrev pub freeHeap : (p : ℕ) → List ℕ → List ℕ × Answer
+freeHeap p h = freeAt (heapOps 4 8 (length h)) p h
+
+abbrev pub freeStack : (p : ℕ) → StackShadows → StackShadows × Answer
+freeStack p s = freeAt (stackOps (length (s .0))) p s
+
+-- recording and written by a position, as on an area that begins at address 0. Not free, which has a case for that address
 abbrev pub onHeap : Call → List ℕ → List ℕ × Answer
 onHeap c h = shadowStep (heapRules 8 0 (length h)) (heapOps 4 8 (length h)) c h
 

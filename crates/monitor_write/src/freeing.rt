@@ -8,7 +8,7 @@ ghost use Rattle.plain.specs.Call as plain;
 ghost use Rattle.plain.specs.ShadowCalls.{lengthOf};
 ghost use Rattle.stack_layout.specs.Ops.{StackShadows};
 ghost use Rattle.monitor_base.specs.Answers.{outcome};
-ghost use Rattle.monitor_write.specs.AreaCalls.{freeRefusal, onHeap, onStack};
+ghost use Rattle.monitor_write.specs.AreaCalls.{freeRefusal, freeHeap, freeStack};
 ghost use Rattle.monitor_base.specs.Calls.{call};
 use map::Address;
 use map::Map;
@@ -48,7 +48,7 @@ fn length_of(r: Reading) -> u32
 // In the heap. The number.
 fn on_heap(heap: &mut [u8], base: Position) -> u32
     requires { ⌜ (base .0 < length (now heap)) × (length (now heap) % 8 ≡ 0) × (length (now heap) ≤ 131072) ⌝ }
-    ensures { λ r. ⌜ _≡_ {A = List ℕ × plain.Answer} (now (heap .exit), plain.refusal r) (onHeap (plain.free (base .0)) (now (heap .entry))) ⌝ }
+    ensures { λ r. ⌜ _≡_ {A = List ℕ × plain.Answer} (now (heap .exit), plain.refusal r) (freeHeap (base .0) (now (heap .entry))) ⌝ }
 {
     let r = heap::read(heap, base);
     let k = refused(r);
@@ -62,7 +62,7 @@ fn on_heap(heap: &mut [u8], base: Position) -> u32
 fn on_stack(primary: &mut [u8], secondary: &mut [u8], base: Position) -> u32
     requires { ⌜ (base .0 < length (now primary)) × (length (now primary) ≡ length (now secondary)) × (length (now primary) ≤ 65536) ⌝ }
     ensures { λ r. ⌜ _≡_ {A = StackShadows × plain.Answer} ((now (primary .exit), now (secondary .exit)), plain.refusal r)
-        (onStack (plain.free (base .0)) (now (primary .entry), now (secondary .entry))) ⌝ }
+        (freeStack (base .0) (now (primary .entry), now (secondary .entry))) ⌝ }
 {
     let r = stack::read(primary, secondary, base);
     let k = refused(r);
@@ -72,7 +72,7 @@ fn on_stack(primary: &mut [u8], secondary: &mut [u8], base: Position) -> u32
     k
 }
 
-// Zeros in the shadow of the block and of its header.
+// Zeroes the shadow of the block and of its header. Address 0, C's null pointer, is accepted and nothing changes.
 pub fn free(
     map: Map,
     heap: &mut [u8],
@@ -90,6 +90,12 @@ pub fn free(
     match locate(map, base) {
         Located::Heap(p) => guard::refusal(on_heap(heap, p)),
         Located::Stack(p) => guard::refusal(on_stack(primary, secondary, p)),
-        Located::Outside => guard::refusal(4),
+        Located::Outside => {
+            // C's null pointer, which no area holds: there is nothing to free.
+            if base.0 == 0 {
+                return guard::refusal(0);
+            }
+            guard::refusal(4)
+        }
     }
 }

@@ -49,7 +49,8 @@ module _ (R : Rules) (G : Sound R) where
   keep-after : (c : Call) (bs : List Block) → Placed R 0 bs → firstOf (byRules R c ++ byList R c bs) ≡ 0 → Placed R 0 (listAfter c bs)
   keep-after clear bs P e = tt
   keep-after (begin w b l) bs P e = keep-begin w b l bs P (begin-joins R w b l bs e)
-  keep-after (free x) bs P e = remove-placed R G x bs 0 P
+  keep-after (free zero) bs P e = P
+  keep-after (free (suc x)) bs P e = remove-placed R G (suc x) bs 0 P
   keep-after (written a n) bs P e = marks-placed R n a bs 0 P
   keep-after (ask a) bs P e = P
   keep-after (valid a n from) bs P e = P
@@ -81,7 +82,8 @@ first-low (r ∷ rs) h = go (r .1) (first-low rs (h .1))
 listed-low : (R : Rules) (c : Call) (bs : List Block) → Low (byRules R c ++ byList R c bs)
 listed-low R clear bs = tt
 listed-low R (begin w b l) bs = (omega arith, (omega arith, (omega arith, (omega arith, tt))))
-listed-low R (free x) bs = (omega arith, (omega arith, tt))
+listed-low R (free zero) bs = tt
+listed-low R (free (suc x)) bs = (omega arith, (omega arith, tt))
 listed-low R (written a n) bs = (omega arith, (omega arith, (omega arith, tt)))
 listed-low R (ask a) bs = (omega arith, (omega arith, tt))
 listed-low R (valid a n from) bs = (omega arith, tt)

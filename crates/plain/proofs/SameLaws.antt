@@ -66,8 +66,12 @@ module _ {S : Type 0} (R : Rules) (G : Sound R) (O : Ops S) (image : List Block 
 
     free-same : (x : ℕ) → shadowStep R O (free x) (image bs) ≡ both (plainStep R (free x) bs)
     unfolding shadowStep plainStep
-    free-same x = ap by (reads x) ∙ rw q (go (test (R .inside x)) (find (contains x) bs) refl)
+    free-same zero = refl
+    free-same (suc y) = ap by (reads x) ∙ rw q (go (test (R .inside x)) (find (contains x) bs) refl)
       where
+        x : ℕ
+        x = suc y
+
         by : Reading → S × Answer
         by r =
             unless (cond (not (R .inside x)) 4 (cond (isDamaged r) 8 (cond (not (isFirst r)) 7 0))) (image bs) (O .erase (image bs) x (lengthOf r), done)

@@ -11,6 +11,7 @@ pub data Call : Type 0 where
   clear : Call
   -- a block begins: no byte counts as written, or every byte does
   begin : (written : Bool) (base length : ℕ) → Call
+  -- address 0, C's null pointer, is accepted and changes nothing
   free : (base : ℕ) → Call
   written : (address n : ℕ) → Call
   ask : (address : ℕ) → Call
@@ -61,7 +62,8 @@ unless (suc k) s r = (s, refusal (suc k))
 abbrev pub byRules : Rules → Call → List Refusal
 byRules R clear = []
 byRules R (begin w b l) = (3, eqb l 0) ∷ (4, not (R .fits b l)) ∷ (5, not (R .aligned b)) ∷ []
-byRules R (free x) = (4, not (R .inside x)) ∷ []
+byRules R (free zero) = []
+byRules R (free (suc x)) = (4, not (R .inside (suc x))) ∷ []
 byRules R (written a n) = (3, eqb n 0) ∷ (4, not (R .inside a)) ∷ []
 byRules R (ask a) = (4, not (R .inside a)) ∷ []
 byRules R (valid a n from) = (3, eqb n 0) ∷ []

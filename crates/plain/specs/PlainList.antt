@@ -3,7 +3,7 @@
 use mathlib.Core.Bool.{not, _&&_}
 use mathlib.Core.List.{List, [], _∷_, _++_}
 use mathlib.Core.Option.{Option, none, some}
-use Prim.Native.Nat.{ℕ, _-_}
+use Prim.Native.Nat.{ℕ, zero, suc, _-_}
 use lib.Dec.{leb}
 use Rattle.number.specs.Bits.{bit}
 use Rattle.plain.specs.Block.{Block, len, begun, contains, holds, hasBase, isWritten, allWritten}
@@ -15,7 +15,8 @@ use Rattle.plain.specs.Call.{Call, clear, begin, free, written, ask, val
 -- the refusals that the live blocks decide: 6 where footprints meet, 7 where there is no such block
 abbrev pub byList : Rules → Call → List Block → List Refusal
 byList R (begin w b l) bs = (6, any (meets R b l) bs) ∷ []
-byList R (free x) bs = (7, not (any (hasBase x) bs)) ∷ []
+byList R (free zero) bs = []
+byList R (free (suc x)) bs = (7, not (any (hasBase (suc x)) bs)) ∷ []
 byList R (written a n) bs = (7, not (any (holds a n) bs)) ∷ []
 byList R (ask a) bs = (7, not (any (contains a) bs)) ∷ []
 byList R (next a) bs = (7, not (any (λ b. leb a (b .base)) bs)) ∷ []
@@ -28,7 +29,8 @@ byList R audit bs = []
 abbrev pub listAfter : Call → List Block → List Block
 listAfter clear bs = []
 listAfter (begin w b l) bs = insert (begun w b l) bs
-listAfter (free x) bs = remove x bs
+listAfter (free zero) bs = bs
+listAfter (free (suc x)) bs = remove (suc x) bs
 listAfter (written a n) bs = markAll a n bs
 listAfter (ask a) bs = bs
 listAfter (valid a n from) bs = bs

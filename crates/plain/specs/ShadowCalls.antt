@@ -1,4 +1,5 @@
--- The calls on a shadow state of whatever layout, by its operations, for any bytes. Assumes nothing.
+-- The calls on a shadow state of whatever layout, by its operations, for any bytes. Their arguments are addresses: free has a case for
+-- address 0. Assumes nothing.
 use mathlib.Core.Bool.{Bool, true, false, not, _&&_, _||_}
 use mathlib.Core.List.{List, [], _∷_, _++_}
 use mathlib.Core.Option.{Option, none, some}
@@ -94,7 +95,8 @@ module _ {S : Type 0} (R : Rules) (O : Ops S) where
   abbrev pub byShadows : Call → S → List Refusal
   byShadows clear s = []
   byShadows (begin w b l) s = (6, not (O .vacant s b l)) ∷ []
-  byShadows (free x) s = (8, isDamaged (reading s x)) ∷ (7, not (isFirst (reading s x))) ∷ []
+  byShadows (free zero) s = []
+  byShadows (free (suc x)) s = (8, isDamaged (reading s (suc x))) ∷ (7, not (isFirst (reading s (suc x)))) ∷ []
   byShadows (written a n) s = (8, isDamaged (reading s a)) ∷ (7, not (inOne n (reading s a))) ∷ []
   byShadows (ask a) s = (8, isDamaged (reading s a)) ∷ (7, not (isBlock (reading s a))) ∷ []
   byShadows (valid a n from) s = (8, isDamaged (reading s a) || isDamaged (reading s from)) ∷ []
@@ -106,7 +108,8 @@ module _ {S : Type 0} (R : Rules) (O : Ops S) where
   abbrev pub shadowsAfter : Call → S → S
   shadowsAfter clear s = O .cleared
   shadowsAfter (begin w b l) s = O .stamp s (begun w b l)
-  shadowsAfter (free x) s = O .erase s x (lengthOf (reading s x))
+  shadowsAfter (free zero) s = s
+  shadowsAfter (free (suc x)) s = O .erase s (suc x) (lengthOf (reading s (suc x)))
   shadowsAfter (written a n) s = markRange O s a n
   shadowsAfter (ask a) s = s
   shadowsAfter (valid a n from) s = s

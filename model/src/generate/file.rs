@@ -2,7 +2,7 @@
 
 use crate::call::Call;
 use crate::generate::{call, edge_map, map, Scale};
-use crate::map::Map;
+use crate::map::{Map, NULL};
 use crate::plain::{List, PlainList};
 use crate::program::{encode, encode_map, LARGEST_HEAP, LARGEST_STACK};
 use crate::random::Random;
@@ -52,6 +52,9 @@ fn call_record(random: &mut Random, list: &mut Option<PlainList>) -> Vec<u8> {
             list.step(made);
         }
         made
+    } else if random.once_in(8) {
+        // Number 1 comes first even for a call that would do nothing.
+        Call::Free { base: NULL }
     } else {
         let map = map(random, Scale::Crowded);
         call(random, map, &[])

@@ -54,7 +54,7 @@ pub fn on_bytes(line: &str, example: &OneCall) {
     let mut shadows = example.shadows.clone();
     let answer = on(EXAMPLE_MAP, &mut shadows, example.call);
     assert_eq!(answer, example.answer, "{line}: {:?}", example.call);
-    if answer.number != 0 || example.call.only_looks() {
+    if answer.number != 0 || example.call.alters_nothing() {
         assert_eq!(shadows, example.shadows, "{line}: bytes changed");
     }
     for stated in &example.then {

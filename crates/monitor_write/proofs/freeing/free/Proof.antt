@@ -9,13 +9,13 @@ use Rattle.stack_layout.specs.Ops.{StackShadows}
 use Rattle.monitor_base.specs.Locating.{Lies}
 use Rattle.monitor_base.specs.declared.Located.{Located}
 use Rattle.monitor_base.specs.declared.Located.the-variants.{Heap, Stack, Outside}
-use Rattle.monitor_write.specs.AreaCalls.{onHeap, onStack}
+use Rattle.monitor_write.specs.AreaCalls.{freeHeap, freeStack}
 use Rattle.monitor_base.proofs.CallLaws.{early-good}
 use Rattle.monitor_write.proofs.OutcomeLaws.{refused, stepped, stepped-heap, stepped-stack}
-use Rattle.monitor_write.proofs.StepLaws.{free-is}
+use Rattle.monitor_write.proofs.StepLaws.{free-4, free-null}
 use Rattle.monitor_write.proofs.AtLaws.{free-at}
 use Rattle.monitor_base.proofs.LocatingLaws.{heap-there, stack-there}
-use Rattle.monitor_write.proofs.AreaLaws.{heap-at, stack-at, out-inside}
+use Rattle.monitor_write.proofs.AreaLaws.{heap-at, stack-at, out-inside, null-inside}
 use borrow.Author.Needs.{needs}
 use Rattle.monitor_write.proofs.freeing.free.Statement.{statement}
 use Rattle.monitor_write.proofs.freeing.free.Tie as tie
@@ -98,19 +98,30 @@ enum-told c = search needs
 refusal-requires-4 : tie.Need-refusal-requires-4
 refusal-requires-4 c κs = search needs
 
-same-length : tie.Need-same-length
-same-length c = search needs
-
 returns-2 : tie.Need-returns-2
 unfolding lengthsFit
 returns-2 c =
+    let k = c .before .before .before .before .before .before in
+    let e = entry (k .before) in
+    stepped (e .args .map) (asked e) (shadows e) (k .before .checked .result) (k .before .checked .ensures) _ (k .if1 .left) (shadows e) (refusal 0) (c .refusal4 .ensures)
+    (λ g l. free-null _ _ (shadows e) _ (c .before .if2 .taken))
+
+refusal-requires-5 : tie.Need-refusal-requires-5
+refusal-requires-5 c κs = search needs
+
+same-length : tie.Need-same-length
+same-length c = search needs
+
+returns-3 : tie.Need-returns-3
+unfolding lengthsFit
+returns-3 c =
     let p = c .before .before .before .before .before .before in
     let k = p .before .before .before in
     let e = entry (k .before) in
     let h = in-heap p in
-    stepped-heap (e .args .map) (asked e) (shadows e) (k .before .checked .result) (k .before .checked .ensures) _ (k .if1 .left) _ _ (onHeap (free (p .p .given .0 .0 .0)) (shadows e .0)) (c .refusal2 .ensures)
+    stepped-heap (e .args .map) (asked e) (shadows e) (k .before .checked .result) (k .before .checked .ensures) _ (k .if1 .left) _ _ (freeHeap (p .p .given .0 .0 .0) (shadows e .0)) (c .refusal2 .ensures)
     (c .before .before .before .on-heap .ensures)
-    (λ g l. free-at _ _ (shadows e) _ _ _ _ _ _ (heap-at (e .args .map) (shadows e) g l (e .args .base .0) _ (h .0) (h .1)))
+    (λ g l. free-at _ _ (shadows e) _ _ _ _ _ _ (heap-at (e .args .map) (shadows e) g l (e .args .base .0) _ (h .0) (h .1)) (null-inside (e .args .map) g))
 
 same-length-2 : tie.Need-same-length-2
 same-length-2 c = search needs
@@ -118,26 +129,27 @@ same-length-2 c = search needs
 same-length-3 : tie.Need-same-length-3
 same-length-3 c = search needs
 
-returns-3 : tie.Need-returns-3
+returns-4 : tie.Need-returns-4
 unfolding lengthsFit
-returns-3 c =
+returns-4 c =
     let x = c .before .before .before .before .before in
     let p = x .before .before .before .before in
     let k = p .before .before .before in
     let e = entry (k .before) in
     let h = in-stack p in
     let t : StackShadows = (x .on-stack .last .0, x .on-stack .last .1 .0) in
-    stepped-stack (e .args .map) (asked e) (shadows e) (k .before .checked .result) (k .before .checked .ensures) _ (k .if1 .left) t _ (onStack (free (p .p2 .given .0 .0 .0)) (shadows e .1)) (c .refusal3 .ensures)
+    stepped-stack (e .args .map) (asked e) (shadows e) (k .before .checked .result) (k .before .checked .ensures) _ (k .if1 .left) t _ (freeStack (p .p2 .given .0 .0 .0) (shadows e .1)) (c .refusal3 .ensures)
     (x .on-stack .ensures)
-    (λ g l. free-at _ _ (shadows e) _ _ _ _ _ _ (stack-at (e .args .map) (shadows e) g l (e .args .base .0) _ (h .0) (h .1)))
+    (λ g l. free-at _ _ (shadows e) _ _ _ _ _ _ (stack-at (e .args .map) (shadows e) g l (e .args .base .0) _ (h .0) (h .1)) (null-inside (e .args .map) g))
 
-returns-4 : tie.Need-returns-4
+returns-5 : tie.Need-returns-5
 unfolding lengthsFit
-returns-4 c =
-    let k = c .before .before .before .before in
+returns-5 c =
+    let o = c .before .before .before in
+    let k = o .before .before .before in
     let e = entry (k .before) in
-    stepped (e .args .map) (asked e) (shadows e) (k .before .checked .result) (k .before .checked .ensures) _ (k .if1 .left) (shadows e) (refusal 4) (c .refusal4 .ensures)
-    (λ g l. free-is _ _ (shadows e) _ _ _ (out-inside (e .args .map) _ (outside (c .before))) refl)
+    stepped (e .args .map) (asked e) (shadows e) (k .before .checked .result) (k .before .checked .ensures) _ (k .if1 .left) (shadows e) (refusal 4) (c .refusal5 .ensures)
+    (λ g l. free-4 _ _ (shadows e) _ (c .before .if2 .left) (out-inside (e .args .map) _ (outside o)))
 
 pub free-spec : {M : Type 1} → statement M
 free-spec =
@@ -155,9 +167,11 @@ free-spec =
     refusal-requires-3
     enum-told
     refusal-requires-4
-    same-length
     returns-2
+    refusal-requires-5
+    same-length
+    returns-3
     same-length-2
     same-length-3
-    returns-3
-    returns-4)
+    returns-4
+    returns-5)

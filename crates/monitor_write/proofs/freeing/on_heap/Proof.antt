@@ -7,9 +7,10 @@ use Rattle.number.specs.Parts.{at}
 use Rattle.plain.specs.Reading.{Reading}
 use Rattle.plain.specs.ShadowCalls.{lengthOf}
 use Rattle.heap_layout.specs.Reading.{heapReading}
+use Rattle.heap_layout.specs.Ops.{heapOps}
 use Rattle.monitor_write.specs.AreaCalls.{freeRefusal}
 use Rattle.monitor_write.proofs.StepLaws.{free-refused, free-done}
-use Rattle.monitor_write.proofs.AreaLaws.{heap-reads, heap-first}
+use Rattle.monitor_write.proofs.AreaLaws.{heap-first}
 use mathlib.Core.List.{List}
 use borrow.Author.Needs.{needs}
 use Rattle.monitor_write.proofs.freeing.on_heap.Statement.{statement}
@@ -53,8 +54,7 @@ returns : tie.Need-returns
 returns c =
     let y = c .before .before .before in
     let f = y .before .before .before in
-    let r = heap-reads (state f) (entry f .args .base .0) (entry f .pre .0) in
-    sym (free-done _ _ (state f) _ (r .0) (reading f) (r .1) _ (number f) (y .before .before .if1 .taken) _ (size y) _ (c .before .before .erase .ensures))
+    sym (free-done (heapOps 4 8 (length (state f))) (state f) (entry f .args .base .0) _ (number f) (y .before .before .if1 .taken) _ (size y) _ (c .before .before .erase .ensures))
 
 same-length-2 : tie.Need-same-length-2
 same-length-2 c = search needs
@@ -62,8 +62,7 @@ same-length-2 c = search needs
 returns-2 : tie.Need-returns-2
 returns-2 c =
     let f = c .before in
-    let r = heap-reads (state f) (entry f .args .base .0) (entry f .pre .0) in
-    sym (free-refused _ _ (state f) _ (r .0) (reading f) (r .1) _ (number f) (c .if1 .left))
+    sym (free-refused (heapOps 4 8 (length (state f))) (state f) (entry f .args .base .0) _ (number f) (c .if1 .left))
 
 pub on-heap-spec : {M : Type 1} → statement M
 on-heap-spec =

@@ -6,10 +6,10 @@ use Rattle.number.specs.Parts.{at}
 use Rattle.plain.specs.Reading.{Reading}
 use Rattle.plain.specs.ShadowCalls.{lengthOf}
 use Rattle.stack_layout.specs.Reading.{stackReading}
-use Rattle.stack_layout.specs.Ops.{StackShadows}
+use Rattle.stack_layout.specs.Ops.{StackShadows, stackOps}
 use Rattle.monitor_write.specs.AreaCalls.{freeRefusal}
 use Rattle.monitor_write.proofs.StepLaws.{free-refused, free-done}
-use Rattle.monitor_write.proofs.AreaLaws.{stack-reads, stack-first}
+use Rattle.monitor_write.proofs.AreaLaws.{stack-first}
 use borrow.Author.Needs.{needs}
 use Rattle.monitor_write.proofs.freeing.on_stack.Statement.{statement}
 use Rattle.monitor_write.proofs.freeing.on_stack.Tie as tie
@@ -55,8 +55,7 @@ returns : tie.Need-returns
 returns c =
     let y = c .before .before .before .before .before in
     let f = y .before .before .before .before in
-    let r = stack-reads (state f) (entry f .args .base .0) (entry f .pre .0) in
-    sym (free-done _ _ (state f) _ (r .0) (reading f) (r .1) _ (number f) (y .before .before .before .if1 .taken) _ (size y) _ (c .before .before .before .before .erase .ensures))
+    sym (free-done (stackOps (length (state f .0))) (state f) (entry f .args .base .0) _ (number f) (y .before .before .before .if1 .taken) _ (size y) _ (c .before .before .before .before .erase .ensures))
 
 same-length-3 : tie.Need-same-length-3
 same-length-3 c = search needs
@@ -67,8 +66,7 @@ same-length-4 c = search needs
 returns-2 : tie.Need-returns-2
 returns-2 c =
     let f = c .before in
-    let r = stack-reads (state f) (entry f .args .base .0) (entry f .pre .0) in
-    sym (free-refused _ _ (state f) _ (r .0) (reading f) (r .1) _ (number f) (c .if1 .left))
+    sym (free-refused (stackOps (length (state f .0))) (state f) (entry f .args .base .0) _ (number f) (c .if1 .left))
 
 pub on-stack-spec : {M : Type 1} → statement M
 on-stack-spec =
