@@ -111,7 +111,7 @@ lesson() {
 test_lesson() {
     local n
     lesson 0 lesson.expected 0 "$@"
-    for n in 1 2 3 4 5 6; do
+    for n in 1 2 3 4 5 6 7; do
         lesson $n mistake-$n.expected 1 "$@"
     done
 }

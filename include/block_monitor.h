@@ -64,8 +64,8 @@ uint32_t block_monitor_record_written(const uint32_t map[4], uint8_t *heap, size
                                       uint8_t *secondary, size_t secondary_length, uint32_t base, uint32_t length, uint32_t fields[4]);
 
 /*
- * The block with this base ends. Of 0, the null pointer's address, it is accepted and does nothing, as C's free: after 1 and 2 it looks no
- * further. So no other pointer may be told as 0; every other address in neither area is refused.
+ * The block with this base ends. With 0, the null pointer's address, it is accepted after 1 and 2 and does nothing, as C's free does. So no
+ * other pointer may be given as 0; every other address in neither area is refused.
  */
 uint32_t block_monitor_free(const uint32_t map[4], uint8_t *heap, size_t heap_length, uint8_t *primary, size_t primary_length,
                             uint8_t *secondary, size_t secondary_length, uint32_t base, uint32_t fields[4]);

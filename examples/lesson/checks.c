@@ -144,6 +144,10 @@ void check_free(const char *what, const void *pointer, struct place where)
         return;
     }
     print_call(what, where);
+    if (number == BLOCK_MONITOR_OUTSIDE) {
+        printf("pointer into neither area");
+        stop();
+    }
     printf("0x%" PRIx32 " is ", address);
     if (number != BLOCK_MONITOR_NO_BLOCK)
         stop_refused(number);

@@ -28,7 +28,7 @@ struct place {
 /* Before a heap block is given back; a pointer that is NULL passes, as it does with C's free. */
 #define CHECK_FREE(pointer) check_free("release", pointer, HERE)
 
-/* Where an automatic object ends; for a static one, at the end of the program. */
+/* Where an automatic object ends; for a static one, at the end of the program. For the monitor it is the same call. */
 #define CHECK_LEAVE(pointer) check_free("end", pointer, HERE)
 
 /* Before a read of n bytes. */

@@ -1,7 +1,7 @@
 /*
  * A vocabulary exercise on lent memory, with a check at every allocation, release and pointer use.
  *
- * Built with -DMISTAKE=n it has one mistake, n from 1 to 6; without, it has none. Each place says which.
+ * Built with -DMISTAKE=n it has one mistake, n from 1 to 7; without, it has none. Each place says which.
  */
 #include <inttypes.h>
 #include <stdio.h>
@@ -205,6 +205,8 @@ static void exercise(uint32_t word, uint32_t *points, uint32_t *tries)
     stack_pop(typed);
     CHECK_FREE(prompt);
     heap_release(prompt);
+    if (MISTAKE == 7) /* 7: the constant itself, which is no block */
+        hint = (char *)words[word].hint;
     CHECK_FREE(hint); /* NULL for most words: nothing happens */
     heap_release(hint);
     if (MISTAKE == 4) { /* 4: released here and once more below */

@@ -169,8 +169,8 @@ fn block_edge(random: &mut Random, map: Map, blocks: &[Block]) -> u32 {
     }
 }
 
-/// A block's base mostly, or the null pointer; freeing anything else is
-/// refused, even the addresses next to the null pointer.
+/// A block's base mostly, or the null pointer, or an address beside it, which
+/// is refused like any other.
 fn first_byte(random: &mut Random, map: Map, blocks: &[Block]) -> u32 {
     match random.below(15) {
         0 | 1 => NULL,

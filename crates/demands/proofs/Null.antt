@@ -1,12 +1,10 @@
 -- Free of address 0, proved: see specs/Null.antt for what each says. Assumes nothing.
-use mathlib.Core.Path.{_≡_, refl, _∙_}
-use mathlib.Core.Bool.{true, false}
+use mathlib.Core.Path.{_≡_, refl}
+use mathlib.Core.Bool.{false}
 use mathlib.Core.List.{List}
 use mathlib.Core.Option.{Option, none, some}
 use Prim.Native.Nat.{ℕ, zero, suc}
 use Rattle.number.proofs.TestLaws.{not-both}
-use Rattle.map.specs.declared.Map.{Map}
-use Rattle.map.specs.Map.{goodMap}
 use Rattle.map.proofs.MapLaws.{zero-outside}
 use Rattle.plain.specs.Block.{Block, len, contains}
 use Rattle.plain.specs.Blocks.{find, found, any}

@@ -1,5 +1,5 @@
 -- `monitor_write::freeing::free` meets its contract: one arm for each area. Assumes nothing.
-use mathlib.Core.Path.{_≡_, refl, sym, _∙_}
+use mathlib.Core.Path.{_≡_, sym, _∙_}
 use mathlib.Core.Bool.{true}
 use denote.Ref.{now}
 use Rattle.map.specs.Map.{goodMap}
