@@ -14,14 +14,14 @@ use Rattle.plain.specs.Call.{free, refusal, done, firstOf, unless}
 use Rattle.plain.specs.PlainList.{plainStep}
 use Rattle.plain.proofs.BlockLaws.{contains-true}
 use Rattle.plain.proofs.FindLaws.{find-facts}
-use Rattle.shadows.specs.Shadows.{Shadows, zeroShadows}
+use Rattle.shadows.specs.Shadows.{Shadows}
 use Rattle.shadows.proofs.ShadowLaws.{map-sound}
 use Rattle.monitor_base.specs.Calls.{refusals, call}
-use Rattle.monitor_base.proofs.LocatingLaws.{read-out}
+use Rattle.monitor_base.proofs.LocatingLaws.{read-out, null-inside}
 use Rattle.demands.specs.Null.{NullOutside, NoBlockAtNull, FreeOfNull, FreeOutside}
 
 pub null-outside : NullOutside
-null-outside m ok = read-out m (zeroShadows m) 0 (zero-outside m ok) .1
+null-outside = null-inside
 
 pub no-block-at-null : NoBlockAtNull
 no-block-at-null m ok = (unlisted, λ s. read-out m s 0 (zero-outside m ok) .0)

@@ -10,7 +10,7 @@ use Rattle.number.proofs.TestLaws.{Test, is-true, is-false, test}
 use Rattle.map.specs.declared.Map.{Map}
 use Rattle.map.specs.declared.Area.the-variants.{Heap, Stack, Outside}
 use Rattle.map.specs.Map.{goodMap, within, areaOf}
-use Rattle.map.proofs.MapLaws.{Good, good-true, within-true}
+use Rattle.map.proofs.MapLaws.{Good, good-true, within-true, zero-outside}
 use Rattle.plain.specs.Areas.{mapRules}
 use Rattle.plain.specs.Reading.{Reading, nothing, block, damaged}
 use Rattle.plain.specs.Lift.{readingUp}
@@ -107,9 +107,17 @@ module _ (m : Map) (s : Shadows) (ok : goodMap m ≡ true) (fit : lengthsFit m s
   unfolding readAny
   read-stack a p e q = let h = area-stack m a e in rw (lengths .1 .0, h .0, h .1, q) (refl, refl)
 
+-- an address of neither area
+pub out-inside : (m : Map) (a : ℕ) → areaOf m a ≡ Outside → mapRules m .inside a ≡ false
+out-inside m a e = let h = area-out m a e in rw (h .0) (h .1)
+
 pub read-out : (m : Map) (s : Shadows) (a : ℕ) → areaOf m a ≡ Outside → (readAny (mapRules m) (shadowOps m) s a ≡ nothing) × (mapRules m .inside a ≡ false)
 unfolding readAny
-read-out m s a e = let h = area-out m a e in rw (h .0, h .1) (refl, refl)
+read-out m s a e = let i = out-inside m a e in (rw i refl, i)
+
+-- C's null pointer is such an address
+pub null-inside : (m : Map) → goodMap m ≡ true → mapRules m .inside 0 ≡ false
+null-inside m ok = out-inside m 0 (zero-outside m ok)
 
 -- ---- n bytes that lie in one block lie in its area
 

@@ -12,7 +12,7 @@ use Rattle.number.proofs.TestLaws.{Test, is-true, is-false, test, and-false-r, 
 use Rattle.map.specs.declared.Map.{Map}
 use Rattle.map.specs.declared.Area.the-variants.{Heap, Stack, Outside}
 use Rattle.map.specs.Map.{goodMap, within, areaOf}
-use Rattle.map.proofs.MapLaws.{Good, good-true, within-true, true-within, zero-outside}
+use Rattle.map.proofs.MapLaws.{Good, good-true, within-true, true-within}
 use Rattle.plain.specs.Rules.{Rules}
 use Rattle.plain.specs.Areas.{heapRules, stackRules, mapRules}
 use Rattle.plain.specs.Reading.{Reading, nothing, block, damaged}
@@ -79,13 +79,6 @@ module _ (size : ℕ) (f g : ℕ → ℕ) (p : ℕ) where
 
 pub out-fits : (m : Map) (a l : ℕ) → areaOf m a ≡ Outside → mapRules m .fits a l ≡ false
 out-fits m a l e = let v = area-out m a e in rw (v .0) (and-false-r (leb (a + l) (m .«stack_start» + m .«stack_size»)) _ (v .1))
-
-pub out-inside : (m : Map) (a : ℕ) → areaOf m a ≡ Outside → mapRules m .inside a ≡ false
-out-inside m a e = let v = area-out m a e in rw (v .0) (v .1)
-
--- C's null pointer is such an address
-pub null-inside : (m : Map) → goodMap m ≡ true → mapRules m .inside 0 ≡ false
-null-inside m ok = out-inside m 0 (zero-outside m ok)
 
 -- ---- a good map, and shadows of the right lengths
 

@@ -14,8 +14,8 @@ use Rattle.monitor_base.proofs.CallLaws.{early-good}
 use Rattle.monitor_write.proofs.OutcomeLaws.{refused, stepped, stepped-heap, stepped-stack}
 use Rattle.monitor_write.proofs.StepLaws.{free-4, free-null}
 use Rattle.monitor_write.proofs.AtLaws.{free-at}
-use Rattle.monitor_base.proofs.LocatingLaws.{heap-there, stack-there}
-use Rattle.monitor_write.proofs.AreaLaws.{heap-at, stack-at, out-inside, null-inside}
+use Rattle.monitor_base.proofs.LocatingLaws.{heap-there, stack-there, out-inside, null-inside}
+use Rattle.monitor_write.proofs.AreaLaws.{heap-at, stack-at}
 use borrow.Author.Needs.{needs}
 use Rattle.monitor_write.proofs.freeing.free.Statement.{statement}
 use Rattle.monitor_write.proofs.freeing.free.Tie as tie

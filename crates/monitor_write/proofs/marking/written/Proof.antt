@@ -15,8 +15,8 @@ use Rattle.monitor_base.proofs.CallLaws.{early-good}
 use Rattle.monitor_write.proofs.OutcomeLaws.{refused, stepped, stepped-heap, stepped-stack}
 use Rattle.monitor_write.proofs.StepLaws.{written-3, written-4}
 use Rattle.monitor_write.proofs.AtLaws.{written-at}
-use Rattle.monitor_base.proofs.LocatingLaws.{heap-there, stack-there}
-use Rattle.monitor_write.proofs.AreaLaws.{heap-at, stack-at, out-inside}
+use Rattle.monitor_base.proofs.LocatingLaws.{heap-there, stack-there, out-inside}
+use Rattle.monitor_write.proofs.AreaLaws.{heap-at, stack-at}
 use borrow.Author.Needs.{needs}
 use Rattle.monitor_write.proofs.marking.written.Statement.{statement}
 use Rattle.monitor_write.proofs.marking.written.Tie as tie
