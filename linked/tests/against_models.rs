@@ -1,7 +1,9 @@
 //! The proved library against the models: number, fields and every shadow byte. `MONITOR_CALLS` multiplies the number of calls.
 
+mod common;
+
+use common::agreed;
 use linked::call;
-use model::bytes;
 use model::generate::{self, shadows, Scale};
 use model::image::{image, Shadows};
 use model::map::Map;
@@ -55,25 +57,9 @@ fn runs_at_full_size() {
 }
 
 /// One call on any bytes against the byte-level model.
-fn once(random: &mut Random, map: Map, mut lent: Shadows, seed: u64) {
+fn once(random: &mut Random, map: Map, mut lent: Shadows) {
     let one = generate::call(random, map, &[]);
-    let mut other = lent.clone();
-    let said = call(
-        map,
-        &mut lent.heap,
-        &mut lent.primary,
-        &mut lent.secondary,
-        one,
-    );
-    let model = bytes::call(
-        map,
-        &mut other.heap,
-        &mut other.primary,
-        &mut other.secondary,
-        one,
-    );
-    assert_eq!(said, model, "seed {seed} {map:?} {one:?} {other:?}");
-    assert!(lent == other, "bytes differ: seed {seed} {map:?} {one:?}");
+    agreed(map, &mut lent, one);
 }
 
 #[test]
@@ -87,7 +73,7 @@ fn calls_on_damaged_and_random_bytes() {
         } else {
             shadows::damaged(&mut random, map, 1 + seed % 6)
         };
-        once(&mut random, map, lent, seed);
+        once(&mut random, map, lent);
     }
 }
 
@@ -111,6 +97,6 @@ fn bad_maps_and_wrong_lengths() {
         shorter(&mut lent.heap, &mut random);
         shorter(&mut lent.primary, &mut random);
         shorter(&mut lent.secondary, &mut random);
-        once(&mut random, map, lent, seed);
+        once(&mut random, map, lent);
     }
 }

@@ -4,10 +4,7 @@ use mathlib.Core.Bool.{Bool, true, false}
 use mathlib.Core.List.{List, [], _∷_}
 use Prim.Native.Nat.{ℕ, zero, suc, _+_, _*_, _-_, _/_, _%_, _^_, _≤_, _<_, min}
 use native.Mathlib.Omega.{arith}
-use native.Mathlib.Nat.{one-mul}
 use lib.ListN.{take, drop, replicate, length-take, length-drop, length-replicate}
-use lib.Dec.{lit<}
-use lib.Pow.{shl-exact}
 use borrow.Author.Tests.{lt-ltb, le-leb, eq-eqb, ne-eqb}
 use Rattle.number.specs.Bits.{ofBits}
 use Rattle.number.specs.Parts.{over}
@@ -37,10 +34,6 @@ bits-none w n e = rw (e, none-set n)
 
 pub bits-all : (w : Bool) (n : ℕ) → w ≡ true → ofBits (replicate n w) + 1 ≡ 2 ^ n
 bits-all w n e = rw e (all-set n)
-
--- a shift of 1 by at most eight places loses nothing
-pub one-shifted : (n : ℕ) → n ≤ 8 → 1 * 2 ^ n % 2 ^ 32 ≡ 2 ^ n
-one-shifted n h = shl-exact {a = 1} 1 n 32 (lit< tt) (omega arith) ∙ one-mul (2 ^ n)
 
 -- the marks of a segment as the block begins: eight, or those up to the block's end
 segment-marks : (w : Bool) (n d l : ℕ) → take n (drop d (replicate l w)) ≡ replicate (min n (l - d)) w

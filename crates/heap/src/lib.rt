@@ -10,7 +10,7 @@ ghost use Rattle.plain.specs.Answers.{readingOf};
 ghost use Rattle.plain.specs.Block.{begun};
 ghost use Rattle.plain.specs.Ops.{markRange, rangeMarked};
 ghost use Rattle.heap_layout.specs.Reading.{heapReading};
-ghost use Rattle.heap_layout.specs.Ops.{placeLength, heapVacant, heapStamp, heapErase, heapMark, heapMarked, heapOps};
+ghost use Rattle.heap_layout.specs.Ops.{placeLength, heapVacant, heapStamp, heapErase, heapOps};
 ghost use Rattle.heap.specs.Pair.{pairByte};
 
 // The reading of a position. That L = 0 is damaged needs no test: then w − 1 ≥ L.
@@ -91,7 +91,7 @@ fn first_bits(written: bool, n: u32) -> u32
     ensures { λ r. ⌜ r ≡ ofBits (replicate n written) ⌝ }
 {
     if written {
-        return (1u32 << n) - 1;
+        return number::low_bits(n);
     }
     0
 }
@@ -115,52 +115,77 @@ pub fn stamp(heap: &mut [u8], base: Position, len: u32, written: bool)
     }
 }
 
-// Sets the written bit of one position.
-fn mark_one(heap: &mut [u8], at: usize)
-    requires { ⌜ (at < length (now heap)) × (length (now heap) % 8 ≡ 0) ⌝ }
-    ensures { λ _. ⌜ now (heap .exit) ≡ heapMark 4 8 (now (heap .entry)) at ⌝ }
+// Marks from a segment's start on: each whole segment, then the first bits of the last.
+fn mark_from(heap: &mut [u8], start: usize, end: usize)
+    requires { ⌜ (start % 8 ≡ 0) × (start ≤ end) × (end ≤ length (now heap)) ⌝ }
+    requires { ⌜ (length (now heap) % 8 ≡ 0) × (length (now heap) ≤ 131072) ⌝ }
+    ensures { λ _. ⌜ now (heap .exit) ≡ markRange (heapOps 4 8 (length (now (heap .entry)))) (now (heap .entry)) start (end - start) ⌝ }
 {
-    let bits = at / 8 * 8 + 4;
-    heap[bits] = number::with_bit(heap[bits], (at % 8) as u32);
+    let mut at = start;
+    while at + 8 <= end {
+        number::set_bits(&mut heap[at + 4], 0, 8);
+        at += 8;
+    }
+    if at < end {
+        number::set_bits(&mut heap[at + 4], 0, (end - at) as u32);
+    }
 }
 
-// Sets the written bits of the n positions from p on.
+// Sets the written bits of the n positions from p on. What sets those of a segment is lent its one byte of written bits.
 pub fn mark(heap: &mut [u8], p: Position, n: u32)
     requires { ⌜ (p .0 + n ≤ length (now heap)) × (length (now heap) % 8 ≡ 0) × (length (now heap) ≤ 131072) ⌝ }
     ensures { λ _. ⌜ now (heap .exit) ≡ markRange (heapOps 4 8 (length (now (heap .entry)))) (now (heap .entry)) (p .0) n ⌝ }
 {
     let Position(first) = p;
-    let end = first + (n as usize);
-    let mut at = first;
-    while at < end {
-        mark_one(heap, at);
-        at += 1;
+    if n == 0 {
+        return;
     }
+    let segment = first / 8 * 8;
+    let j = (first % 8) as u32;
+    if j + n <= 8 {
+        number::set_bits(&mut heap[segment + 4], j, n);
+        return;
+    }
+    number::set_bits(&mut heap[segment + 4], j, 8 - j);
+    mark_from(heap, segment + 8, first + (n as usize));
 }
 
-// Whether the written bit of one position is set.
-fn marked_one(heap: &[u8], at: usize) -> bool
-    requires { ⌜ (at < length (now heap)) × (length (now heap) % 8 ≡ 0) ⌝ }
-    ensures { λ r. ⌜ r ≡ heapMarked 4 8 (now (heap .entry)) at ⌝ }
+// Whether all is marked from a segment's start on: each whole segment, then the first bits of the last.
+fn marked_from(heap: &[u8], start: usize, end: usize) -> bool
+    requires { ⌜ (start % 8 ≡ 0) × (start ≤ end) × (end ≤ length (now heap)) ⌝ }
+    requires { ⌜ (length (now heap) % 8 ≡ 0) × (length (now heap) ≤ 131072) ⌝ }
+    ensures { λ r. ⌜ r ≡ rangeMarked (heapOps 4 8 (length (now (heap .entry)))) (now (heap .entry)) start (end - start) ⌝ }
 {
-    let bits = at / 8 * 8 + 4;
-    number::bit(heap[bits], (at % 8) as u32) == 1
+    let mut at = start;
+    while at + 8 <= end {
+        if number::bits_set(heap[at + 4], 0, 8) {
+            at += 8;
+        } else {
+            return false;
+        }
+    }
+    if at < end {
+        return number::bits_set(heap[at + 4], 0, (end - at) as u32);
+    }
+    true
 }
 
-// Whether the written bits of the n positions from p on are set.
+// Whether the written bits of the n positions from p on are set: one test of each segment's byte.
 pub fn marked(heap: &[u8], p: Position, n: u32) -> bool
     requires { ⌜ (p .0 + n ≤ length (now heap)) × (length (now heap) % 8 ≡ 0) × (length (now heap) ≤ 131072) ⌝ }
     ensures { λ r. ⌜ r ≡ rangeMarked (heapOps 4 8 (length (now (heap .entry)))) (now (heap .entry)) (p .0) n ⌝ }
 {
     let Position(first) = p;
-    let end = first + (n as usize);
-    let mut at = first;
-    while at < end {
-        if marked_one(heap, at) {
-            at += 1;
-        } else {
-            return false;
-        }
+    if n == 0 {
+        return true;
     }
-    true
+    let segment = first / 8 * 8;
+    let j = (first % 8) as u32;
+    if j + n <= 8 {
+        return number::bits_set(heap[segment + 4], j, n);
+    }
+    if number::bits_set(heap[segment + 4], j, 8 - j) {
+        return marked_from(heap, segment + 8, first + (n as usize));
+    }
+    false
 }

@@ -1,20 +1,20 @@
 -- Laws of bits, over the bit and the list. Assumes nothing.
 use mathlib.Core.Path.{_≡_, refl, sym, ap, _∙_}
-use mathlib.Core.Logic.{_⊎_, inl, inr, ⊎-elim}
 use mathlib.Core.Bool.{Bool, true, false, not, _&&_}
 use mathlib.Core.List.{List, [], _∷_}
-use Prim.Native.Nat.{ℕ, zero, suc, _+_, _-_, _*_, _/_, _%_, _^_, _≤_, _<_}
+use Prim.Native.Nat.{ℕ, zero, suc, _+_, _-_, _*_, _/_, _%_, _^_, _≤_, _<_, max}
 use native.Mathlib.Omega.{arith}
-use native.Mathlib.Nat.{mod-lt, zero-div, div-self, div-eq-of-lt, mul-div-cancel-left, mul-mod-left, pow-suc, one-mul, div-one, div-div-eq-div-mul}
+use native.Mathlib.Nat.{mod-lt, zero-div, zero-mul, div-eq-of-lt, pow-suc, one-mul, div-one, div-div-eq-div-mul}
 use native.Mathlib.Numerals.{add-one}
 use lib.ListN.{length, getD, set}
 use lib.Dec.{eqb, lit<, lit≤}
-use lib.Pow.{pow-pos, pow-lt, pow-add, shr-shr, high-ones, shl-exact}
-use lib.Bits.{bitAnd, bitOr, or-add-and, and-le-l, and-le-r, and-high, or-shr, or-mod, or-zero-r, or-step, or-shifted}
+use lib.Pow.{pow-pos, pow-lt, pow-mono, shr-shr, mod-pow-add, high-ones, shl-exact, shl-lt}
+use lib.Arith.{bin-ind}
+use lib.Bits.{bitAnd, bitOr, or-add-and, and-le-l, and-le-r, and-mask, and-high, or-shr, or-zero-r, or-step, or-shifted, or-shifted-r}
 use lib.Count as count
 use borrow.Author.Tests.{eq-eqb, eqb-true}
 use Rattle.number.proofs.TestLaws.{and-true, same-test}
-use Rattle.number.specs.Bits.{bit, bitOf, withBit, ofBits, ones, onesOf}
+use Rattle.number.specs.Bits.{bit, bitOf, withBit, withBits, bitsSet, ofBits, ones, onesOf}
 
 pub bit-lt : (b : Bool) → bit b < 2
 bit-lt true = omega arith
@@ -23,11 +23,6 @@ bit-lt false = omega arith
 pub bit-back : (x : Bool) → eqb (bit x) 1 ≡ x
 bit-back true = refl
 bit-back false = refl
-
-bit-cases : (x : ℕ) → x < 2 → (x ≡ 0) ⊎ (x ≡ 1)
-bit-cases zero h = inl refl
-bit-cases (suc zero) h = inr refl
-bit-cases (suc (suc x)) h = absurd (omega arith)
 
 pub bit-test : (x : ℕ) → x < 2 → bit (eqb x 1) ≡ x
 bit-test zero h = refl
@@ -54,44 +49,69 @@ pub mask-two : (b : ℕ) → not (eqb (bitAnd b 2) 0) ≡ eqb (b / 2 % 2) 1
 unfolding bitOf
 mask-two b = ap (λ (x : ℕ). not (eqb x 0)) (and-bit b 1) ∙ twice-test (b / 2 % 2) (mod-lt (b / 2) (lit< tt))
 
--- a shift of 1 in a byte loses nothing
-pub or-shl : (b j : ℕ) → j < 8 → bitOr b (1 * 2 ^ j % 256) ≡ withBit b j
-unfolding withBit
-or-shl b j h = ap (bitOr b) (shl-exact {a = 1} 1 j 8 (lit< tt) (omega arith) ∙ one-mul (2 ^ j))
-
 -- a code above two bits
 pub pack-or : (k w : ℕ) → k < 64 → w < 4 → bitOr (k * 4 % 256) w ≡ 4 * k + w
 pack-or k w h g = ap (λ (x : ℕ). bitOr x w) (shl-exact {a = k} 6 2 8 h (lit≤ tt)) ∙ or-shifted k 2 w g ∙ omega arith
 
--- ---- a bit that is set
+-- ---- a run of bits
 
-weight-above : (j k : ℕ) → j < k → bitOf (2 ^ j) k ≡ 0
-unfolding bitOf
-weight-above j k h = ap (λ (x : ℕ). x % 2) (div-eq-of-lt (pow-lt h))
+or-assoc : (a b c : ℕ) → bitOr (bitOr a b) c ≡ bitOr a (bitOr b c)
+or-assoc = bin-ind (λ (a : ℕ). (b c : ℕ) → bitOr (bitOr a b) c ≡ bitOr a (bitOr b c)) (λ b c. refl) step
+  where
+    odd : (a b : ℕ) → bitOr a b % 2 ≡ max (a % 2) (b % 2)
+    odd a b = omega (arith, or-step a b)
 
-weight-add : (k d : ℕ) → bitOf (2 ^ (k + suc d)) k ≡ 0
-unfolding bitOf
-weight-add k d =
-    ap (λ (x : ℕ). x / 2 ^ k % 2) (pow-add 2 k (suc d)) ∙ ap (λ (x : ℕ). x % 2) (mul-div-cancel-left (2 ^ suc d) (pow-pos k))
-    ∙ ap (λ (x : ℕ). x % 2) (pow-suc 2 d) ∙ mul-mod-left (2 ^ d) 2
+    step : (a : ℕ) → ((b c : ℕ) → bitOr (bitOr (a / 2) b) c ≡ bitOr (a / 2) (bitOr b c)) → (b c : ℕ) → bitOr (bitOr a b) c ≡ bitOr a (bitOr b c)
+    step a ih b c =
+        or-step (bitOr a b) c
+        ∙ rw (or-shr a b 1, odd a b, ih (b / 2) (c / 2), or-step a (bitOr b c), or-shr b c 1, odd b c) (omega arith)
 
-weight-below : (j k : ℕ) → k < j → bitOf (2 ^ j) k ≡ 0
-weight-below j k h = let e : k + suc (j - k - 1) ≡ j = omega arith in ap (λ (x : ℕ). bitOf (2 ^ x) k) (sym e) ∙ weight-add k (j - k - 1)
+-- a shift of 1 loses nothing
+pub one-shifted : (n : ℕ) → n < 32 → 1 * 2 ^ n % 2 ^ 32 ≡ 2 ^ n
+one-shifted n h = shl-exact {a = 1} 1 n 32 (lit< tt) (omega arith) ∙ one-mul (2 ^ n)
 
-or-bitOf : (a b k : ℕ) → bitOf (bitOr a b) k ≡ bitOr (bitOf a k) (bitOf b k)
-unfolding bitOf
-or-bitOf a b k = ap (λ (x : ℕ). x % 2) (or-shr a b k) ∙ or-mod (a / 2 ^ k) (b / 2 ^ k) 1
+-- n low bits, shifted to bit j, stay in a byte
+module _ (j n m : ℕ) (h : j + n ≤ 8) (e : m + 1 ≡ 2 ^ n) where
+  pub run-shifted : m * 2 ^ j % 2 ^ 32 ≡ m * 2 ^ j
+  run-shifted = shl-exact {a = m} n j 32 (omega arith) (omega arith)
 
-or-one : (x : ℕ) → x < 2 → bitOr x 1 ≡ 1
-or-one x h = ⊎-elim (λ e. rw e) (λ e. rw e) (bit-cases x h)
+  pub run-lt : m * 2 ^ j < 256
+  run-lt = omega (arith, shl-lt {a = m} n j (omega arith), pow-mono {i = n + j} {j = 8} (omega arith))
 
-pub with-same : (b j : ℕ) → bitOf (withBit b j) j ≡ 1
-unfolding withBit bitOf
-with-same b j = or-bitOf b (2 ^ j) j ∙ ap (bitOr (bitOf b j)) (ap (λ (x : ℕ). x % 2) (div-self (pow-pos j))) ∙ or-one (bitOf b j) (bitOf-lt b j)
+-- one or sets them all
+pub with-run : (b j n m : ℕ) → m + 1 ≡ 2 ^ n → bitOr b (m * 2 ^ j) ≡ withBits b j n
+unfolding withBits withBit
+with-run b j zero m e = let z : m ≡ 0 = omega arith in rw (z, zero-mul (2 ^ j), or-zero-r b)
+with-run b j (suc n) m e =
+    let o : m ≡ m / 2 * 2 + 1 = omega (arith, pow-suc 2 n) in
+    let q : m * 2 ^ j ≡ m / 2 * 2 ^ suc j + 2 ^ j = ap (λ (x : ℕ). x * 2 ^ j) o ∙ rw (pow-suc 2 j) (omega arith) in
+    ap (bitOr b) (q ∙ sym (or-shifted-r (m / 2) (suc j) (2 ^ j) (pow-lt {i = j} {j = suc j} (omega arith)))) ∙ sym (or-assoc b (2 ^ j) (m / 2 * 2 ^ suc j))
+    ∙ with-run (bitOr b (2 ^ j)) (suc j) n (m / 2) (omega (arith, pow-suc 2 n))
 
-pub with-other : (b j k : ℕ) → (j < k) ⊎ (k < j) → bitOf (withBit b j) k ≡ bitOf b k
-unfolding withBit
-with-other b j k h = or-bitOf b (2 ^ j) k ∙ ap (bitOr (bitOf b k)) (⊎-elim (weight-above j k) (weight-below j k) h) ∙ or-zero-r (bitOf b k)
+-- a number of ones alone: its last bit is one, and so are the others
+all-ones : (x r p : ℕ) → r < 2 → 0 < p → eqb (x * 2 + r) (p * 2 - 1) ≡ (eqb r 1 && eqb x (p - 1))
+all-ones x r p h k =
+    same-test (eqb (x * 2 + r) (p * 2 - 1)) (eqb r 1 && eqb x (p - 1))
+    (λ e. let t : x * 2 + r ≡ p * 2 - 1 = eqb-true (x * 2 + r) (p * 2 - 1) e in
+    rw (eq-eqb r 1 (omega arith), eq-eqb x (p - 1) (omega arith)))
+    (λ e. let t = and-true (eqb r 1) (eqb x (p - 1)) e in
+    eq-eqb (x * 2 + r) (p * 2 - 1) (omega (arith, eqb-true r 1 (t .0), eqb-true x (p - 1) (t .1))))
+
+run-set : (b j n : ℕ) → eqb (b / 2 ^ j % 2 ^ n) (2 ^ n - 1) ≡ bitsSet b j n
+unfolding bitsSet bitOf
+run-set b j zero = let z : b / 2 ^ j % 2 ^ 0 ≡ 0 = omega arith in rw z
+run-set b j (suc n) =
+    let p : 2 ^ suc n ≡ 2 ^ n * 2 = pow-suc 2 n in
+    let d : b / 2 ^ j / 2 ≡ b / 2 ^ suc j = shr-shr b j 1 ∙ ap (λ (x : ℕ). b / 2 ^ x) (add-one j) in
+    let m : b / 2 ^ j % 2 ^ suc n ≡ (b / 2 ^ suc j % 2 ^ n) * 2 + b / 2 ^ j % 2 =
+    ap (λ (x : ℕ). b / 2 ^ j % 2 ^ x) (sym (add-one n)) ∙ mod-pow-add (b / 2 ^ j) n 1 ∙ rw d in
+    rw (m, p, all-ones (b / 2 ^ suc j % 2 ^ n) (b / 2 ^ j % 2) (2 ^ n) (mod-lt (b / 2 ^ j) (lit< tt)) (pow-pos n), run-set b (suc j) n)
+
+-- one mask tests them all
+pub mask-run : (b j n m : ℕ) → m + 1 ≡ 2 ^ n → eqb (bitAnd (b / 2 ^ j) m) m ≡ bitsSet b j n
+mask-run b j n m e =
+    let z : m ≡ 2 ^ n - 1 = omega arith in
+    rw (z, and-mask (b / 2 ^ j) n) (run-set b j n)
 
 -- ---- the number of a list of bits
 
@@ -147,7 +167,7 @@ ones-list (x ∷ xs) =
 
 -- the ones of a number are those of its bits
 pub onesOf-list : (n : ℕ) (l : List Bool) → length l ≤ n → onesOf n (ofBits l) ≡ ones l
-onesOf-list n l h = sym (ones-all n (ofBits l) (omega (arith, ofBits-lt l, lib.Pow.pow-mono h))) ∙ ones-list l
+onesOf-list n l h = sym (ones-all n (ofBits l) (omega (arith, ofBits-lt l, pow-mono h))) ∙ ones-list l
 
 -- an or is zero where both are
 pub or-none : (a b : ℕ) → eqb (bitOr a b) 0 ≡ (eqb a 0 && eqb b 0)

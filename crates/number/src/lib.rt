@@ -1,10 +1,10 @@
 // Little-endian numbers, bits, and parts of a slice.
 ghost use mathlib.Core.Path.{_≡_};
 ghost use mathlib.Core.Bool.{Bool, true};
-ghost use Prim.Native.Nat.{ℕ, _+_, _-_, _≤_, _<_};
+ghost use Prim.Native.Nat.{ℕ, _+_, _-_, _^_, _≤_, _<_};
 ghost use lib.ListN.{length};
 ghost use Rattle.number.specs.Little.{le, bytesOf, byteOf, word};
-ghost use Rattle.number.specs.Bits.{bitOf, withBit, onesOf};
+ghost use Rattle.number.specs.Bits.{bitOf, withBits, bitsSet, onesOf};
 ghost use Rattle.number.specs.Parts.{at, zeros, oddBytes, over};
 
 // A byte as a wider number.
@@ -158,12 +158,29 @@ pub fn bit(byte: u8, j: u32) -> u8
     (byte >> j) & 1
 }
 
-// The byte with bit j set.
-pub fn with_bit(byte: u8, j: u32) -> u8
-    requires { ⌜ j < 8 ⌝ }
-    ensures { λ r. ⌜ r ≡ withBit byte j ⌝ }
+// The number whose n low bits are set.
+pub fn low_bits(n: u32) -> u32
+    requires { ⌜ n < 32 ⌝ }
+    ensures { λ r. ⌜ r + 1 ≡ 2 ^ n ⌝ }
 {
-    byte | (1u8 << j)
+    (1u32 << n) - 1
+}
+
+// Sets the n bits from bit j on, in the one byte that is lent.
+pub fn set_bits(byte: &mut u8, j: u32, n: u32)
+    requires { ⌜ j + n ≤ 8 ⌝ }
+    ensures { λ _. ⌜ now (byte .exit) ≡ withBits (now (byte .entry)) j n ⌝ }
+{
+    *byte = *byte | ((low_bits(n) << j) as u8);
+}
+
+// Whether the n bits from bit j on are set.
+pub fn bits_set(byte: u8, j: u32, n: u32) -> bool
+    requires { ⌜ j + n ≤ 8 ⌝ }
+    ensures { λ r. ⌜ r ≡ bitsSet byte j n ⌝ }
+{
+    let low = low_bits(n);
+    (wide(byte) >> j) & low == low
 }
 
 // The ones of a byte.

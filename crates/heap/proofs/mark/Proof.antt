@@ -1,66 +1,106 @@
--- `heap::mark` meets its contract: what is left to mark makes of the shadow what the whole range makes of it. Assumes nothing.
-use mathlib.Core.Path.{_≡_, sym, _∙_}
-use Prim.Native.Nat.{_≤_, _-_, _+_}
+-- `heap::mark` meets its contract: the first segment's positions, then those from the next segment on. Assumes nothing.
+use mathlib.Core.Path.{_≡_, refl, sym, _∙_}
+use Prim.Native.Nat.{_+_, _-_, _*_, _/_, _%_}
 use native.Mathlib.Omega.{arith}
-use native.Mathlib.Nat.{add-sub-cancel-left}
 use denote.Ref.{now}
-use lib.ListN.{length}
-use borrow.Author.Needs.{needs}
-use Rattle.plain.specs.Ops.{markRange}
+use lib.ListN.{length, set, length-set}
 use Rattle.heap_layout.specs.Ops.{heapOps}
-use Rattle.heap.proofs.RangeLaws.{mark-done, mark-next}
+use Rattle.heap.proofs.MarkLaws.{mark-part, mark-first}
+use Rattle.heap.proofs.RangeLaws.{mark-none}
+use borrow.Author.Needs.{needs}
 use Rattle.heap.proofs.mark.Statement.{statement}
 use Rattle.heap.proofs.mark.Tie as tie
 
-abbrev Inv-loop : tie.InvT-loop
-Inv-loop heap₀ n first end p₀ heap p =
-    (p ≤ end) × (length heap ≡ length heap₀)
-    × (markRange (heapOps 4 8 (length heap₀)) heap₀ first n ≡ markRange (heapOps 4 8 (length heap₀)) heap p (end - p))
+returns : tie.Need-returns
+returns c =
+    let a = c .before .before .args in
+    sym (mark-none (heapOps 4 8 (length (now (a .heap)))) (now (a .heap)) (a .p .0) (a .n) (c .if1 .taken))
 
-abbrev μ-loop : tie.MeasureT-loop
-μ-loop heap₀ n first end p₀ heap p = end - p
+mul-segment : tie.Need-mul-segment
+mul-segment c = search needs
 
-add-end : tie.Need-add-end Inv-loop μ-loop
-add-end c = search needs
+cast-j : tie.Need-cast-j
+cast-j c = search needs
 
-loop-holds : tie.Need-loop-holds Inv-loop μ-loop
-loop-holds c = (search needs, search needs, rw add-sub-cancel-left)
+add-if2 : tie.Need-add-if2
+add-if2 c = search needs
 
-mark-one-requires : tie.Need-mark-one-requires Inv-loop μ-loop
-mark-one-requires c κs = search needs
+add-set-bits : tie.Need-add-set-bits
+add-set-bits c = search needs
 
-add-at : tie.Need-add-at Inv-loop μ-loop
-add-at c = search needs
+index-1-set-bits : tie.Need-index-1-set-bits
+index-1-set-bits c = search needs
 
-loop-less : tie.Need-loop-less Inv-loop μ-loop
-loop-less c = search needs
+set-bits-requires : tie.Need-set-bits-requires
+set-bits-requires c κs = search needs
 
-loop-again : tie.Need-loop-again Inv-loop μ-loop
-loop-again c =
-    let a = c .before .before .before .before .before .before .before .args in
-    let l = c .before .before .before .before .before .loop in
-    (search needs, search needs, l .inv .2 ∙ mark-next (heapOps 4 8 (length (now (a .heap)))) (l .heap) (l .at) (a .p .0 + a .n) (omega arith) ∙ rw (c .before .before .mark-one .ensures))
-
-same-length : tie.Need-same-length Inv-loop μ-loop
+same-length : tie.Need-same-length
 same-length c = search needs
 
-returns : tie.Need-returns Inv-loop μ-loop
-returns c =
-    let a = c .before .before .before .args in
-    let l = c .before .loop in
-    sym (l .inv .2 ∙ mark-done (heapOps 4 8 (length (now (a .heap)))) (l .heap) (l .at) (a .p .0 + a .n) (omega arith))
+returns-2 : tie.Need-returns-2
+returns-2 c =
+    let a = c .before .before .before .before .before .args in
+    let h = now (a .heap) in
+    sym (mark-part (length h) h (a .p .0) (a .n) (a .p .0 / 8 * 8 + 4) (a .p .0 % 8) (omega arith) refl refl _ (omega arith) (c .set-bits .ensures))
+
+add-set-bits-2 : tie.Need-add-set-bits-2
+add-set-bits-2 c = search needs
+
+index-1-set-bits-2 : tie.Need-index-1-set-bits-2
+index-1-set-bits-2 c = search needs
+
+sub-set-bits : tie.Need-sub-set-bits
+sub-set-bits c = search needs
+
+set-bits-requires-2 : tie.Need-set-bits-requires-2
+set-bits-requires-2 c κs = search needs
+
+add-mark-from : tie.Need-add-mark-from
+add-mark-from c = search needs
+
+add-mark-from-2 : tie.Need-add-mark-from-2
+add-mark-from-2 c = search needs
+
+mark-from-requires : tie.Need-mark-from-requires
+mark-from-requires c κs =
+    let a = c .before .before .before .before .before .before .args in
+    let l = length-set (now (a .heap)) (a .p .0 / 8 * 8 + 4) (c .before .set-bits2 .last .0) in
+    ((omega arith, omega arith, omega arith), (omega arith, omega arith))
+
+same-length-2 : tie.Need-same-length-2
+same-length-2 c = c .before .heap .given ∙ simp length-set
+
+returns-3 : tie.Need-returns-3
+returns-3 c =
+    let s = c .before .before .before .before .before .before .before .before .before in
+    let h = now (s .args .heap) in
+    let p = s .args .p .0 in
+    let v = c .before .before .before .before .set-bits2 .last .0 in
+    let g = set h (p / 8 * 8 + 4) v in
+    let l : length g ≡ length h = length-set h (p / 8 * 8 + 4) v in
+    let e : p + (8 - p % 8) ≡ p / 8 * 8 + 8 = omega arith in
+    c .before .before .mark-from .ensures
+    ∙ rw (l, ← e) (sym (mark-first (length h) h p (8 - p % 8) (p / 8 * 8 + 4) (p % 8) (omega arith) refl refl (s .args .n) (p + s .args .n - (p + (8 - p % 8))) (omega arith) v (omega arith) (c .before .before .before .before .set-bits2 .ensures)))
 
 pub mark-spec : {M : Type 1} → statement M
 mark-spec =
     tie.close
     (tie.spec
-    Inv-loop
-    μ-loop
-    add-end
-    loop-holds
-    mark-one-requires
-    add-at
-    loop-less
-    loop-again
+    returns
+    mul-segment
+    cast-j
+    add-if2
+    add-set-bits
+    index-1-set-bits
+    set-bits-requires
     same-length
-    returns)
+    returns-2
+    add-set-bits-2
+    index-1-set-bits-2
+    sub-set-bits
+    set-bits-requires-2
+    add-mark-from
+    add-mark-from-2
+    mark-from-requires
+    same-length-2
+    returns-3)

@@ -1,67 +1,105 @@
--- `heap::marked` meets its contract: the whole range is marked exactly if what is left of it is. Assumes nothing.
-use mathlib.Core.Path.{_≡_, sym, _∙_}
-use Prim.Native.Nat.{_≤_, _-_}
-use native.Mathlib.Nat.{add-sub-cancel-left}
+-- `heap::marked` meets its contract: the first segment's positions, then those from the next segment on. Assumes nothing.
+use mathlib.Core.Path.{_≡_, refl, sym, _∙_}
+use mathlib.Core.Bool.{_&&_}
+use Prim.Native.Nat.{_+_, _-_, _*_, _/_, _%_}
+use native.Mathlib.Omega.{arith}
 use denote.Ref.{now}
 use lib.ListN.{length}
-use borrow.Author.Needs.{needs}
 use Rattle.plain.specs.Ops.{rangeMarked}
 use Rattle.heap_layout.specs.Ops.{heapOps}
-use Rattle.heap.proofs.RangeLaws.{marked-done, marked-next}
+use Rattle.heap.proofs.MarkLaws.{marked-part, marked-first}
+use Rattle.heap.proofs.RangeLaws.{marked-none}
+use borrow.Author.Needs.{needs}
 use Rattle.heap.proofs.marked.Statement.{statement}
 use Rattle.heap.proofs.marked.Tie as tie
 
-abbrev Inv-loop : tie.InvT-loop
-Inv-loop heap n first end p₀ p =
-    (p ≤ end) × (rangeMarked (heapOps 4 8 (length heap)) heap first n ≡ rangeMarked (heapOps 4 8 (length heap)) heap p (end - p))
-
-abbrev μ-loop : tie.MeasureT-loop
-μ-loop heap n first end p₀ p = end - p
-
-add-end : tie.Need-add-end Inv-loop μ-loop
-add-end c = search needs
-
-loop-holds : tie.Need-loop-holds Inv-loop μ-loop
-loop-holds c = (search needs, rw add-sub-cancel-left)
-
-marked-one-requires : tie.Need-marked-one-requires Inv-loop μ-loop
-marked-one-requires c κs = search needs
-
-add-at : tie.Need-add-at Inv-loop μ-loop
-add-at c = search needs
-
-loop-less : tie.Need-loop-less Inv-loop μ-loop
-loop-less c = search needs
-
-loop-again : tie.Need-loop-again Inv-loop μ-loop
-loop-again c =
-    let h = now (c .before .before .before .before .before .args .heap) in
-    let l = c .before .before .before .loop in
-    (search needs, l .inv .1 ∙ marked-next (heapOps 4 8 (length h)) h (l .at) _ (c .before .before .loop-test .taken) ∙ rw (← c .before .marked-one .ensures, c .if1 .taken))
-
-returns : tie.Need-returns Inv-loop μ-loop
+returns : tie.Need-returns
 returns c =
-    let h = now (c .before .before .before .before .before .args .heap) in
-    let l = c .before .before .before .loop in
-    sym (l .inv .1 ∙ marked-next (heapOps 4 8 (length h)) h (l .at) _ (c .before .before .loop-test .taken) ∙ rw (← c .before .marked-one .ensures, c .if1 .left))
+    let a = c .before .before .args in
+    sym (marked-none (heapOps 4 8 (length (now (a .heap)))) (now (a .heap)) (a .p .0) (a .n) (c .if1 .taken))
 
-returns-2 : tie.Need-returns-2 Inv-loop μ-loop
+mul-segment : tie.Need-mul-segment
+mul-segment c = search needs
+
+cast-j : tie.Need-cast-j
+cast-j c = search needs
+
+add-if2 : tie.Need-add-if2
+add-if2 c = search needs
+
+add-bits-set : tie.Need-add-bits-set
+add-bits-set c = search needs
+
+shared-slice-read-bits-set : tie.Need-shared-slice-read-bits-set
+shared-slice-read-bits-set c = search needs
+
+bits-set-requires : tie.Need-bits-set-requires
+bits-set-requires c κs = search needs
+
+returns-2 : tie.Need-returns-2
 returns-2 c =
-    let h = now (c .before .before .before .args .heap) in
-    let l = c .before .loop in
-    sym (l .inv .1 ∙ marked-done (heapOps 4 8 (length h)) h (l .at) _ (c .loop-test .left))
+    let a = c .before .before .before .before .before .args in
+    let h = now (a .heap) in
+    sym (marked-part (length h) h (a .p .0) (a .n) (a .p .0 / 8 * 8 + 4) (a .p .0 % 8) (omega arith) refl refl (c .bits-set .result) (c .bits-set .ensures))
+
+add-bits-set-2 : tie.Need-add-bits-set-2
+add-bits-set-2 c = search needs
+
+shared-slice-read-bits-set-2 : tie.Need-shared-slice-read-bits-set-2
+shared-slice-read-bits-set-2 c = search needs
+
+sub-bits-set : tie.Need-sub-bits-set
+sub-bits-set c = search needs
+
+bits-set-requires-2 : tie.Need-bits-set-requires-2
+bits-set-requires-2 c κs = search needs
+
+add-marked-from : tie.Need-add-marked-from
+add-marked-from c = search needs
+
+add-marked-from-2 : tie.Need-add-marked-from-2
+add-marked-from-2 c = search needs
+
+marked-from-requires : tie.Need-marked-from-requires
+marked-from-requires c κs = search needs
+
+-- the first segment's positions, and the rest
+step : (c : tie.After-bits-set2)
+    → let a = c .before .before .before .before .before .args in
+    let h = now (a .heap) in
+    let p = a .p .0 in
+    rangeMarked (heapOps 4 8 (length h)) h p (a .n) ≡ (c .bits-set2 .result && rangeMarked (heapOps 4 8 (length h)) h (p / 8 * 8 + 8) (p + a .n - (p / 8 * 8 + 8)))
+step c =
+    let a = c .before .before .before .before .before .args in
+    let h = now (a .heap) in
+    let p = a .p .0 in
+    let e : p + (8 - p % 8) ≡ p / 8 * 8 + 8 = omega arith in
+    rw (← e) (marked-first (length h) h p (8 - p % 8) (p / 8 * 8 + 4) (p % 8) (omega arith) refl refl (a .n) (p + a .n - (p + (8 - p % 8))) (omega arith) (c .bits-set2 .result) (c .bits-set2 .ensures))
+
+returns-3 : tie.Need-returns-3
+returns-3 c = c .marked-from .ensures ∙ sym (step (c .before .before) ∙ rw (c .before .if3 .taken))
+
+returns-4 : tie.Need-returns-4
+returns-4 c = sym (step (c .before) ∙ rw (c .if3 .left))
 
 pub marked-spec : {M : Type 1} → statement M
 marked-spec =
     tie.close
     (tie.spec
-    Inv-loop
-    μ-loop
-    add-end
-    loop-holds
-    marked-one-requires
-    add-at
-    loop-less
-    loop-again
     returns
-    returns-2)
+    mul-segment
+    cast-j
+    add-if2
+    add-bits-set
+    shared-slice-read-bits-set
+    bits-set-requires
+    returns-2
+    add-bits-set-2
+    shared-slice-read-bits-set-2
+    sub-bits-set
+    bits-set-requires-2
+    add-marked-from
+    add-marked-from-2
+    marked-from-requires
+    returns-3
+    returns-4)

@@ -1,0 +1,79 @@
+//! Marks and tests of every range of a block, whatever was marked before: the proved library against the models, byte by byte.
+
+mod common;
+
+use common::agreed;
+use model::call::Call;
+use model::image::image;
+use model::map::Map;
+use model::plain::{List, PlainList};
+use model::random::Random;
+
+/// Room for a block of several segments or pieces, and a neighbour on either side.
+const MAP: Map = Map::new(4096, 96, 8192, 72);
+/// What was marked before: nothing, everything, and ever more of the bytes at random.
+const PATTERNS: u64 = 8;
+
+/// The list of these blocks, some of their bytes marked.
+fn marked(blocks: &[(u32, u32)], pattern: u64) -> PlainList {
+    let mut random = Random::new(pattern);
+    let mut list = PlainList::new(MAP);
+    for &(base, length) in blocks {
+        assert_eq!(list.step(Call::Record { base, length }).number, 0);
+        for address in base..base + length {
+            let mark = match pattern {
+                0 => false,
+                1 => true,
+                _ => !random.once_in(2 + pattern),
+            };
+            if mark {
+                list.step(Call::Written { address, n: 1 });
+            }
+        }
+    }
+    list
+}
+
+/// Every range that begins in a block, up to one byte past its end.
+fn every_range(list: &PlainList, base: u32, length: u32) {
+    for address in base..base + length {
+        for n in 1..=base + length - address + 1 {
+            for one in [
+                Call::Written { address, n },
+                Call::Initialised { address, n },
+            ] {
+                let mut list = list.clone();
+                let mut lent = image(MAP, list.blocks());
+                let said = agreed(MAP, &mut lent, one);
+                assert_eq!(said, list.step(one), "{one:?}");
+                assert!(lent == image(MAP, list.blocks()), "{one:?}");
+            }
+        }
+    }
+}
+
+/// Every range of the middle one of three blocks.
+fn of_the_middle(blocks: [(u32, u32); 3]) {
+    for pattern in 0..PATTERNS {
+        let (base, length) = blocks[1];
+        every_range(&marked(&blocks, pattern), base, length);
+    }
+}
+
+#[test]
+fn of_heap_blocks() {
+    let base = 4120;
+    for length in [1, 7, 8, 9, 16, 23, 40, 43] {
+        let next = (base + length).next_multiple_of(8) + 8;
+        of_the_middle([(base - 16, 1), (base, length), (next, 5)]);
+    }
+}
+
+#[test]
+fn of_stack_blocks() {
+    for length in [1, 4, 5, 8, 9, 15, 16, 33, 40, 43] {
+        for base in [8197, 8200] {
+            of_the_middle([(base - 1, 1), (base, length), (base + length, 5)]);
+        }
+    }
+}
