@@ -1,55 +1,63 @@
--- The written bits of a run of primary bytes; the secondary has no part in them. Assumes nothing.
+-- The written bits of a run of primary bytes, one by one and as one word; the secondary has no part in them. Assumes nothing.
 use mathlib.Core.Path.{_≡_, refl, sym, ap, _∙_}
 use mathlib.Core.Bool.{Bool, true, false, _&&_, and-assoc}
 use mathlib.Core.List.{List}
-use Prim.Native.Nat.{ℕ, zero, suc, _+_, _-_, _/_, _%_, _≤_, _<_, suc-le-suc}
+use Prim.Native.Nat.{ℕ, zero, suc, _+_, _-_, _*_, _/_, _%_, _≤_, _<_, suc-le-suc}
 use native.Mathlib.Omega.{arith}
-use native.Mathlib.Nat.{add-zero, zero-add, add-suc, suc-add}
+use native.Mathlib.Nat.{add-zero, add-suc, suc-add}
+use native.Mathlib.Numerals.{add-one}
 use lib.ListN.{length, set, length-set}
-use lib.Seq.{getD-set-same, getD-set-other}
 use lib.Bits.{bitAnd, bitOr, or-step, or-zero-r, and-comm, and-mask}
-use lib.Dec.{eqb}
+use lib.Dec.{eqb, lit<}
+use borrow.Author.Tests.{eq-eqb, eqb-true}
+use Rattle.number.specs.Little.{byteOf, word}
 use Rattle.number.specs.Parts.{at, over}
-use borrow.Author.Tests.{eqb-true, eqb-false}
-use Rattle.number.proofs.TestLaws.{Test, is-true, is-false, test}
-use Rattle.number.proofs.PartLaws.{length-over, over-in, over-below, over-above, over-none, is-over}
+use Rattle.number.proofs.TestLaws.{same-test, and-true}
+use Rattle.number.proofs.PartLaws.{over-above, over-ext, over-more, over-next, over-none}
+use Rattle.number.proofs.WordLaws.{AllBytes, byteOf-or, byteOf-word, word-and}
 use Rattle.plain.specs.Ops.{markRange, rangeMarked}
 use Rattle.stack_layout.specs.Ops.{StackShadows, withWritten, stackMark, stackMarked, stackOps}
 
 pub or-written : (x : ℕ) → bitOr x 1 ≡ withWritten x
 or-written x = or-step x 1 ∙ omega (arith, or-zero-r (x / 2))
 
+-- one byte marked
+pub mark-one : (P : List ℕ) (q : ℕ) → q < length P → set P q (withWritten (at P q)) ≡ over q 1 (λ x. withWritten (at P x)) P
+mark-one P q h =
+    let f : ℕ → ℕ = λ x. withWritten (at P x) in
+    rw (over-none q f P, add-zero q) at (over-more q 0 f P (omega arith))
+
+-- the bits of a word, set at once
+pub mark-word : (P : List ℕ) → AllBytes (at P) → (w q v : ℕ) → v ≡ bitOr (word (at P) q w) (word (λ i. 1) 0 w)
+    → over q w (λ x. byteOf v (x - q)) P ≡ over q w (λ x. withWritten (at P x)) P
+mark-word P b w q v e =
+    over-ext q w (λ x. byteOf v (x - q)) (λ x. withWritten (at P x)) P
+    (λ x y z. let o : q + (x - q) ≡ x = omega arith in rw e (rw o at (byte (x - q) (omega arith))))
+  where
+    byte : (i : ℕ) → i < w → byteOf (bitOr (word (at P) q w) (word (λ i. 1) 0 w)) i ≡ withWritten (at P (q + i))
+    byte i h =
+        byteOf-or (word (at P) q w) (word (λ i. 1) 0 w) i
+        ∙ rw (byteOf-word (at P) b w q i h, byteOf-word (λ i. 1) (λ x. lit< tt) w 0 i h) (or-written (at P (q + i)))
+
+-- bytes marked, and the bytes right after them
+pub mark-next : (P Q R : List ℕ) (q m n : ℕ) → q + m + n ≤ length P → Q ≡ over q m (λ x. withWritten (at P x)) P
+    → R ≡ over (q + m) n (λ x. withWritten (at Q x)) Q → R ≡ over q (m + n) (λ x. withWritten (at P x)) P
+mark-next P Q R q m n h e e′ =
+    let f : ℕ → ℕ = λ x. withWritten (at P x) in
+    e′
+    ∙ rw e
+    (over-next q m n f (λ x. withWritten (at (over q m f P) x)) P (λ x y z. ap withWritten (over-above q m f P x (omega arith) y)))
+
 -- a mark of each of n bytes writes over them
 pub mark-range : (size : ℕ) (P S : List ℕ) (p n : ℕ) → p + n ≤ length P
     → _≡_ {A = StackShadows} (over p n (λ q. withWritten (at P q)) P, S) (markRange (stackOps size) (P, S) p n)
 unfolding markRange stackMark
 mark-range size P S p zero h = rw (over-none p (λ q. withWritten (at P q)) P)
-mark-range size P S p (suc n) h = rw first (mark-range size Q S (suc p) n (rw (length-set P p (withWritten (at P p))) (omega arith)))
-  where
-    Q : List ℕ
-    Q = set P p (withWritten (at P p))
-
-    l : length Q ≡ length P
-    l = length-set P p (withWritten (at P p))
-
-    other : (q : ℕ) → (q ≡ p → ⊥) → at Q q ≡ at P q
-    other q ne = getD-set-other P p q (withWritten (at P p)) 0 ne
-
-    into : (q : ℕ) → q < length P → p ≤ q → q < p + suc n → Test (eqb q p) → at (over (suc p) n (λ q. withWritten (at Q q)) Q) q ≡ withWritten (at P q)
-    into q k x y (is-true e) =
-        let w : q ≡ p = eqb-true q p e in
-        over-below (suc p) n (λ q. withWritten (at Q q)) Q q (rw l k) (omega arith) ∙ rw w (getD-set-same P p (withWritten (at P p)) 0 (omega arith))
-    into q k x y (is-false e) =
-        let w : q ≡ p → ⊥ = eqb-false q p e in
-        over-in (suc p) n (λ q. withWritten (at Q q)) Q q (rw l k) (omega arith) (omega arith) ∙ ap withWritten (other q w)
-
-    first : over p (suc n) (λ q. withWritten (at P q)) P ≡ over (suc p) n (λ q. withWritten (at Q q)) Q
-    first =
-        sym
-        (is-over p (suc n) (λ q. withWritten (at P q)) P (over (suc p) n (λ q. withWritten (at Q q)) Q) (length-over (suc p) n (λ q. withWritten (at Q q)) Q ∙ l)
-        (λ q k x y. into q k x y (test (eqb q p)))
-        (λ q k x. over-below (suc p) n (λ q. withWritten (at Q q)) Q q (rw l k) (omega arith) ∙ other q (λ e. omega arith))
-        (λ q k x. over-above (suc p) n (λ q. withWritten (at Q q)) Q q (rw l k) (omega arith) ∙ other q (λ e. omega arith)))
+mark-range size P S p (suc n) h =
+    let Q : List ℕ = set P p (withWritten (at P p)) in
+    let s : 1 + n ≡ suc n = omega arith in
+    let first = rw (s, add-one p) at (mark-next P Q _ p 1 n (omega arith) (mark-one P p (omega arith)) refl) in
+    rw (← first) (mark-range size Q S (suc p) n (rw (length-set P p (withWritten (at P p))) (omega arith)))
 
 -- the bytes alone count, wherever they stand
 pub marked-same : (size size′ : ℕ) (P Q S T : List ℕ) (a b n : ℕ) → ((i : ℕ) → i < n → at P (a + i) ≡ at Q (b + i))
@@ -79,33 +87,24 @@ seen-more zero x h = (refl, omega arith)
 seen-more (suc zero) x h = rw (and-comm 1 x, and-mask x 1) (refl, omega arith)
 seen-more (suc (suc s)) x h = absurd (omega arith)
 
--- bytes, and bytes right after them
-pub marked-next : (size : ℕ) (P S : List ℕ) (p m n : ℕ)
-    → rangeMarked (stackOps size) (P, S) p (m + n) ≡ (rangeMarked (stackOps size) (P, S) p m && rangeMarked (stackOps size) (P, S) (p + m) n)
-unfolding rangeMarked stackMarked
-marked-next size P S p zero n = rw (zero-add n, add-zero p)
-marked-next size P S p (suc m) n =
-    rw (suc-add m n, marked-next size P S (suc p) m n, suc-add p m, ← add-suc p m)
-    (sym (and-assoc (eqb (at P p % 2) 1) (rangeMarked (stackOps size) (P, S) (suc p) m) (rangeMarked (stackOps size) (P, S) (p + suc m) n)))
+-- two words are one exactly if their first bytes are, and the words after those
+word-after : (a b r s : ℕ) → a < 256 → b < 256 → eqb (a + 256 * r) (b + 256 * s) ≡ (eqb a b && eqb r s)
+word-after a b r s h k =
+    same-test (eqb (a + 256 * r) (b + 256 * s)) (eqb a b && eqb r s)
+    (λ e. let x = eqb-true (a + 256 * r) (b + 256 * s) e in rw (eq-eqb a b (omega arith), eq-eqb r s (omega arith)))
+    (λ e. let t = and-true (eqb a b) (eqb r s) e in eq-eqb (a + 256 * r) (b + 256 * s) (rw (eqb-true a b (t .0), eqb-true r s (t .1))))
 
-and-four : (s a b c d : Bool) → ((((s && a) && b) && c) && d) ≡ (s && ((((true && a) && b) && c) && d))
-and-four true a b c d = refl
-and-four false a b c d = refl
+-- the bits of a word are all ones exactly if each is
+word-bits : (size : ℕ) (P S : List ℕ) (w q p : ℕ) → eqb (word (λ i. bitAnd (at P i) 1) q w) (word (λ i. 1) p w) ≡ rangeMarked (stackOps size) (P, S) q w
+unfolding word rangeMarked stackMarked
+word-bits size P S zero q p = refl
+word-bits size P S (suc w) q p =
+    let m : bitAnd (at P q) 1 ≡ at P q % 2 = and-mask (at P q) 1 in
+    word-after (bitAnd (at P q) 1) 1 (word (λ i. bitAnd (at P i) 1) (suc q) w) (word (λ i. 1) (suc p) w) (omega arith) (lit< tt)
+    ∙ rw (m, word-bits size P S w (suc q) (suc p))
 
--- a bit that has seen only ones sees four bytes more
-pub seen-four : (size : ℕ) (P S : List ℕ) (k s : ℕ) → s < 2
-    → (bitAnd (bitAnd (bitAnd (bitAnd s (at P k)) (at P (k + 1))) (at P (k + 2))) (at P (k + 3)) < 2)
-    × (eqb (bitAnd (bitAnd (bitAnd (bitAnd s (at P k)) (at P (k + 1))) (at P (k + 2))) (at P (k + 3))) 1 ≡ (eqb s 1 && rangeMarked (stackOps size) (P, S) k 4))
-unfolding rangeMarked
-seen-four size P S k s h =
-    let a = seen-more s (at P k) h in
-    let b = seen-more (bitAnd s (at P k)) (at P (k + 1)) (a .1) in
-    let c = seen-more (bitAnd (bitAnd s (at P k)) (at P (k + 1))) (at P (k + 2)) (b .1) in
-    let d = seen-more (bitAnd (bitAnd (bitAnd s (at P k)) (at P (k + 1))) (at P (k + 2))) (at P (k + 3)) (c .1) in
-    let z : k + 0 ≡ k = add-zero k in (
-      d .1,
-      d .0
-          ∙ rw (c .0, b .0, a .0)
-          (and-four (eqb s 1) (eqb (at P k % 2) 1) (eqb (at P (k + 1) % 2) 1) (eqb (at P (k + 2) % 2) 1) (eqb (at P (k + 3) % 2) 1)
-          ∙ ap (λ t. eqb s 1 && t) (sym (marked-more size P S k 3 ∙ rw (marked-more size P S k 2, marked-more size P S k 1, marked-more size P S k 0, z) refl))),
-    )
+-- the bits of a word, tested at once
+pub word-marked : (size : ℕ) (P S : List ℕ) → AllBytes (at P) → (w q : ℕ)
+    → eqb (bitAnd (word (at P) q w) (word (λ i. 1) 0 w)) (word (λ i. 1) 0 w) ≡ rangeMarked (stackOps size) (P, S) q w
+word-marked size P S b w q =
+    ap (λ (x : ℕ). eqb x (word (λ i. 1) 0 w)) (rw (add-zero w) at (word-and (at P) 1 b (lit< tt) w 0 q 0)) ∙ word-bits size P S w q 0

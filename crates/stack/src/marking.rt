@@ -1,16 +1,28 @@
-// The written bits of a whole part of the primary shadow: one pass each, with no early way out, which vectorises.
+// The written bits of a part of the primary shadow, set and tested. A loop is one pass with no early way out, which vectorises.
 ghost use mathlib.Core.Path.{_≡_};
 ghost use mathlib.Core.List.{[]};
-ghost use mathlib.Core.Bool.{Bool, _&&_};
-ghost use Prim.Native.Nat.{_+_, _≤_, _<_};
-ghost use lib.Dec.{eqb};
+ghost use Prim.Native.Nat.{_+_, _≤_};
 ghost use lib.ListN.{length};
 ghost use Rattle.number.specs.Parts.{at, over};
 ghost use Rattle.plain.specs.Ops.{rangeMarked};
 ghost use Rattle.stack_layout.specs.Ops.{withWritten, stackOps};
 
+// The written bits of four bytes as one number, and of eight.
+const BITS_4: u32 = 0x01010101;
+
+const BITS_8: u64 = 0x0101010101010101;
+
+// Sets the bits of the four bytes from q on, as one number: no byte carries into the next.
+fn mark_four(primary: &mut [u8], q: usize)
+    requires { ⌜ q + 4 ≤ length (now primary) ⌝ }
+    ensures { λ _. ⌜ now (primary .exit) ≡ over q 4 (λ x. withWritten (at (now (primary .entry)) x)) (now (primary .entry)) ⌝ }
+{
+    let word = number::number_at(primary, q) | BITS_4;
+    number::put_at(primary, q, word);
+}
+
 // Sets each bit, whatever else the byte holds.
-pub fn mark_part(part: &mut [u8])
+fn mark_part(part: &mut [u8])
     ensures { λ _. ⌜ now (part .exit) ≡ over 0 (length (now (part .entry))) (λ q. withWritten (at (now (part .entry)) q)) (now (part .entry)) ⌝ }
 {
     let mut i = 0;
@@ -20,12 +32,33 @@ pub fn mark_part(part: &mut [u8])
     }
 }
 
-// What was seen so far, and the bits of four bytes more.
-fn seen_four(part: &[u8], k: usize, seen: u8) -> u8
-    requires { ⌜ (k + 4 ≤ length (now part)) × (seen < 2) ⌝ }
-    ensures { λ r. ⌜ (r < 2) × (eqb r 1 ≡ (eqb seen 1 && rangeMarked (stackOps (length (now (part .entry)))) (now (part .entry), []) k 4)) ⌝ }
+fn mark_rest(primary: &mut [u8], q: usize, n: usize)
+    requires { ⌜ q + n ≤ length (now primary) ⌝ }
+    ensures { λ _. ⌜ now (primary .exit) ≡ over q n (λ x. withWritten (at (now (primary .entry)) x)) (now (primary .entry)) ⌝ }
 {
-    seen & part[k] & part[k + 1] & part[k + 2] & part[k + 3]
+    let e = q + n;
+    mark_part(&mut primary[q..e]);
+}
+
+// Sets the bits of the n bytes from q on; every other byte stays. The commonest lengths have no loop.
+pub fn mark_at(primary: &mut [u8], q: usize, n: usize)
+    requires { ⌜ q + n ≤ length (now primary) ⌝ }
+    ensures { λ _. ⌜ now (primary .exit) ≡ over q n (λ x. withWritten (at (now (primary .entry)) x)) (now (primary .entry)) ⌝ }
+{
+    if n == 4 {
+        mark_four(primary, q);
+        return;
+    }
+    if n == 8 {
+        mark_four(primary, q);
+        mark_four(primary, q + 4);
+        return;
+    }
+    if n == 1 {
+        primary[q] = primary[q] | 1;
+        return;
+    }
+    mark_rest(primary, q, n);
 }
 
 fn all_marked(part: &[u8]) -> bool
@@ -45,10 +78,13 @@ pub fn part_marked(part: &[u8]) -> bool
     ensures { λ r. ⌜ r ≡ rangeMarked (stackOps (length (now (part .entry)))) (now (part .entry), []) 0 (length (now (part .entry))) ⌝ }
 {
     if part.len() == 4 {
-        return seen_four(part, 0, 1) == 1;
+        return number::number_at(part, 0) & BITS_4 == BITS_4;
     }
     if part.len() == 8 {
-        return seen_four(part, 4, seen_four(part, 0, 1)) == 1;
+        return number::eight_at(part, 0) & BITS_8 == BITS_8;
+    }
+    if part.len() == 1 {
+        return part[0] & 1 == 1;
     }
     all_marked(part)
 }

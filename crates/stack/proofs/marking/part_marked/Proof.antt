@@ -1,50 +1,60 @@
--- `stack::marking::part_marked` meets its contract. Assumes nothing.
-use mathlib.Core.Path.{sym, ap, _∙_}
-use mathlib.Core.Bool.{_&&_}
+-- `stack::marking::part_marked` meets its contract: the mask holds the bit of each byte. Assumes nothing.
+use mathlib.Core.Path.{sym}
 use mathlib.Core.List.{[]}
 use denote.Ref.{now}
-use lib.ListN.{length}
+use lib.Bits.{and-mask}
+use Rattle.number.specs.Little.{word}
+use Rattle.number.specs.Parts.{at}
 use Rattle.plain.specs.Ops.{rangeMarked}
-use Rattle.stack_layout.specs.Ops.{stackOps}
-use Rattle.stack.proofs.MarkLaws.{marked-next}
+use Rattle.stack.proofs.MarkLaws.{marked-more, word-marked}
 use borrow.Author.Needs.{needs}
 use Rattle.stack.proofs.marking.part_marked.Statement.{statement}
 use Rattle.stack.proofs.marking.part_marked.Tie as tie
 
-seen-four-requires : tie.Need-seen-four-requires
-seen-four-requires c κs = search needs
+number-at-requires : tie.Need-number-at-requires
+number-at-requires c κs = search needs
 
 returns : tie.Need-returns
+unfolding word
 returns c =
     let P = now (c .before .before .before .args .part) in
-    c .seen-four .ensures .1 ∙ ap (rangeMarked (stackOps (length P)) (P, []) 0) (sym (c .before .if1 .taken))
+    let b = c .before .before .shared-slice-known .given in
+    rw (c .before .if1 .taken, c .number-at .ensures) (word-marked 4 P [] (λ q. b q .fits) 4 0)
 
-seen-four-requires-2 : tie.Need-seen-four-requires-2
-seen-four-requires-2 c κs = search needs
-
-seen-four-requires-3 : tie.Need-seen-four-requires-3
-seen-four-requires-3 c κs = search needs
+eight-at-requires : tie.Need-eight-at-requires
+eight-at-requires c κs = search needs
 
 returns-2 : tie.Need-returns-2
+unfolding word
 returns-2 c =
+    let P = now (c .before .before .before .before .args .part) in
+    let b = c .before .before .before .shared-slice-known .given in
+    rw (c .before .if2 .taken, c .eight-at .ensures) (word-marked 8 P [] (λ q. b q .fits) 8 0)
+
+shared-slice-read-result : tie.Need-shared-slice-read-result
+shared-slice-read-result c = search needs
+
+returns-3 : tie.Need-returns-3
+unfolding rangeMarked
+returns-3 c =
     let P = now (c .before .before .before .before .before .args .part) in
-    c .seen-four3 .ensures .1 ∙ ap (λ t. t && rangeMarked (stackOps (length P)) (P, []) 4 4) (c .before .seen-four2 .ensures .1)
-    ∙ sym (marked-next (length P) P [] 0 4 4) ∙ ap (rangeMarked (stackOps (length P)) (P, []) 0) (sym (c .before .before .if2 .taken))
+    rw (c .before .if3 .taken, and-mask (at P 0) 1) (sym (marked-more 1 P [] 0 0))
 
 all-marked-requires : tie.Need-all-marked-requires
 all-marked-requires c κs = search needs
 
-returns-3 : tie.Need-returns-3
-returns-3 c = search needs
+returns-4 : tie.Need-returns-4
+returns-4 c = search needs
 
 pub part-marked-spec : {M : Type 1} → statement M
 part-marked-spec =
     tie.close
     (tie.spec
-    seen-four-requires
+    number-at-requires
     returns
-    seen-four-requires-2
-    seen-four-requires-3
+    eight-at-requires
     returns-2
+    shared-slice-read-result
+    returns-3
     all-marked-requires
-    returns-3)
+    returns-4)
