@@ -1,6 +1,6 @@
--- Ranges of written bits: two that are alike, and one after another. Assumes nothing.
+-- Ranges of written bits: two that are alike, none at all, and one after another. Assumes nothing.
 use mathlib.Core.Path.{_≡_, refl, sym, ap, _∙_}
-use mathlib.Core.Bool.{_&&_, and-assoc}
+use mathlib.Core.Bool.{true, _&&_, and-assoc}
 use Prim.Native.Nat.{ℕ, zero, suc, _+_, _<_}
 use native.Mathlib.Omega.{arith}
 use native.Mathlib.Nat.{add-zero, zero-add, add-suc, suc-add}
@@ -23,8 +23,17 @@ module _ {S T : Type 0} (O : Ops S) (P : Ops T) (s : S) (t : T) where
           let y : b + suc i ≡ suc b + i = omega arith in
           sym (ap (O .marked s) x) ∙ h (suc i) (omega arith) ∙ ap (P .marked t) y
 
--- a range, and the range right after it
 module _ {S : Type 0} (O : Ops S) where
+  -- no address at all
+  pub mark-none : (s : S) (a n : ℕ) → n ≡ 0 → markRange O s a n ≡ s
+  unfolding markRange
+  mark-none s a n h = rw h
+
+  pub marked-none : (s : S) (a n : ℕ) → n ≡ 0 → rangeMarked O s a n ≡ true
+  unfolding rangeMarked
+  marked-none s a n h = rw h
+
+  -- a range, and the range right after it
   pub mark-next : (s : S) (a m n : ℕ) → markRange O s a (m + n) ≡ markRange O (markRange O s a m) (a + m) n
   unfolding markRange
   mark-next s a zero n = rw (zero-add n, add-zero a)

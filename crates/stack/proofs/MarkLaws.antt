@@ -1,10 +1,11 @@
 -- The written bits of a run of primary bytes, one by one and as one word; the secondary has no part in them. Assumes nothing.
-use mathlib.Core.Path.{_≡_, refl, sym, ap, _∙_}
-use mathlib.Core.Bool.{Bool, true, false, _&&_, and-assoc}
+use mathlib.Core.Path.{_≡_, refl, ap, _∙_}
+use mathlib.Core.Bool.{_&&_}
+use mathlib.Core.Bool as bool
 use mathlib.Core.List.{List}
-use Prim.Native.Nat.{ℕ, zero, suc, _+_, _-_, _*_, _/_, _%_, _≤_, _<_, suc-le-suc}
+use Prim.Native.Nat.{ℕ, zero, suc, _+_, _-_, _*_, _/_, _%_, _≤_, _<_}
 use native.Mathlib.Omega.{arith}
-use native.Mathlib.Nat.{add-zero, add-suc, suc-add}
+use native.Mathlib.Nat.{add-zero}
 use native.Mathlib.Numerals.{add-one}
 use lib.ListN.{length, set, length-set}
 use lib.Bits.{bitAnd, bitOr, or-step, or-zero-r, and-comm, and-mask}
@@ -16,6 +17,7 @@ use Rattle.number.proofs.TestLaws.{same-test, and-true}
 use Rattle.number.proofs.PartLaws.{over-above, over-ext, over-more, over-next, over-none}
 use Rattle.number.proofs.WordLaws.{AllBytes, byteOf-or, byteOf-word, word-and}
 use Rattle.plain.specs.Ops.{markRange, rangeMarked}
+use Rattle.plain.proofs.MarkedLaws.{range-same, marked-next}
 use Rattle.stack_layout.specs.Ops.{StackShadows, withWritten, stackMark, stackMarked, stackOps}
 
 pub or-written : (x : ℕ) → bitOr x 1 ≡ withWritten x
@@ -62,24 +64,17 @@ mark-range size P S p (suc n) h =
 -- the bytes alone count, wherever they stand
 pub marked-same : (size size′ : ℕ) (P Q S T : List ℕ) (a b n : ℕ) → ((i : ℕ) → i < n → at P (a + i) ≡ at Q (b + i))
     → rangeMarked (stackOps size) (P, S) a n ≡ rangeMarked (stackOps size′) (Q, T) b n
+unfolding stackMarked
+marked-same size size′ P Q S T a b n h = range-same (stackOps size) (stackOps size′) (P, S) (Q, T) n a b (λ i k. rw (h i k))
+
+pub marked-one : (size : ℕ) (P S : List ℕ) (q : ℕ) → rangeMarked (stackOps size) (P, S) q 1 ≡ eqb (at P q % 2) 1
 unfolding rangeMarked stackMarked
-marked-same size size′ P Q S T a b zero h = refl
-marked-same size size′ P Q S T a b (suc n) h =
-    let h0 : at P a ≡ at Q b = rw (add-zero a, add-zero b) at (h 0 (omega arith)) in
-    rw (h0, marked-same size size′ P Q S T (suc a) (suc b) n (λ i k. rw (suc-add a i, suc-add b i, ← add-suc a i, ← add-suc b i) (h (suc i) (suc-le-suc k))))
+marked-one size P S q = bool.and-true (eqb (at P q % 2) 1)
 
 -- one byte more
 pub marked-more : (size : ℕ) (P S : List ℕ) (p n : ℕ)
-    → rangeMarked (stackOps size) (P, S) p (suc n) ≡ (rangeMarked (stackOps size) (P, S) p n && eqb (at P (p + n) % 2) 1)
-unfolding rangeMarked stackMarked
-marked-more size P S p zero = rw add-zero (swap (eqb (at P p % 2) 1))
-  where
-    swap : (t : Bool) → (t && true) ≡ (true && t)
-    swap true = refl
-    swap false = refl
-marked-more size P S p (suc n) =
-    rw (marked-more size P S (suc p) n, add-suc p n, suc-add p n)
-    (sym (and-assoc (eqb (at P p % 2) 1) (rangeMarked (stackOps size) (P, S) (suc p) n) (eqb (at P (suc (p + n)) % 2) 1)))
+    → rangeMarked (stackOps size) (P, S) p (n + 1) ≡ (rangeMarked (stackOps size) (P, S) p n && eqb (at P (p + n) % 2) 1)
+marked-more size P S p n = rw (marked-next (stackOps size) (P, S) p n 1, marked-one size P S (p + n))
 
 -- a bit that has seen only ones sees one more byte
 pub seen-more : (s x : ℕ) → s < 2 → (eqb (bitAnd s x) 1 ≡ (eqb s 1 && eqb (x % 2) 1)) × (bitAnd s x < 2)

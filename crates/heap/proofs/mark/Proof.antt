@@ -4,9 +4,9 @@ use Prim.Native.Nat.{_+_, _-_, _*_, _/_, _%_}
 use native.Mathlib.Omega.{arith}
 use denote.Ref.{now}
 use lib.ListN.{length, set, length-set}
+use Rattle.plain.proofs.MarkedLaws.{mark-none}
 use Rattle.heap_layout.specs.Ops.{heapOps}
 use Rattle.heap.proofs.MarkLaws.{mark-part, mark-first}
-use Rattle.heap.proofs.RangeLaws.{mark-none}
 use borrow.Author.Needs.{needs}
 use Rattle.heap.proofs.mark.Statement.{statement}
 use Rattle.heap.proofs.mark.Tie as tie

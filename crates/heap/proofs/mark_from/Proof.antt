@@ -6,9 +6,9 @@ use denote.Ref.{now}
 use lib.ListN.{length, length-set}
 use borrow.Author.Needs.{needs}
 use Rattle.plain.specs.Ops.{markRange}
+use Rattle.plain.proofs.MarkedLaws.{mark-none}
 use Rattle.heap_layout.specs.Ops.{heapOps}
 use Rattle.heap.proofs.MarkLaws.{mark-part, mark-first}
-use Rattle.heap.proofs.RangeLaws.{mark-none}
 use Rattle.heap.proofs.mark_from.Statement.{statement}
 use Rattle.heap.proofs.mark_from.Tie as tie
 use Rattle.heap.proofs.mark_from.Reads as reads

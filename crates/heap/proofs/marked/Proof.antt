@@ -6,9 +6,9 @@ use native.Mathlib.Omega.{arith}
 use denote.Ref.{now}
 use lib.ListN.{length}
 use Rattle.plain.specs.Ops.{rangeMarked}
+use Rattle.plain.proofs.MarkedLaws.{marked-none}
 use Rattle.heap_layout.specs.Ops.{heapOps}
 use Rattle.heap.proofs.MarkLaws.{marked-part, marked-first}
-use Rattle.heap.proofs.RangeLaws.{marked-none}
 use borrow.Author.Needs.{needs}
 use Rattle.heap.proofs.marked.Statement.{statement}
 use Rattle.heap.proofs.marked.Tie as tie

@@ -7,9 +7,9 @@ use denote.Ref.{now}
 use lib.ListN.{length}
 use borrow.Author.Needs.{needs}
 use Rattle.plain.specs.Ops.{rangeMarked}
+use Rattle.plain.proofs.MarkedLaws.{marked-none}
 use Rattle.heap_layout.specs.Ops.{heapOps}
 use Rattle.heap.proofs.MarkLaws.{marked-part, marked-first}
-use Rattle.heap.proofs.RangeLaws.{marked-none}
 use Rattle.heap.proofs.marked_from.Statement.{statement}
 use Rattle.heap.proofs.marked_from.Tie as tie
 use Rattle.heap.proofs.marked_from.Reads as reads

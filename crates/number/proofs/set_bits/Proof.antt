@@ -1,6 +1,5 @@
 -- `number::set_bits` meets its contract: the shift loses nothing, and one or sets every bit of the run. Assumes nothing.
-use mathlib.Core.Path.{_≡_, ap, _∙_}
-use Prim.Native.Nat.{ℕ}
+use mathlib.Core.Path.{ap, _∙_}
 use native.Mathlib.Omega.{arith}
 use denote.Ref.{now}
 use lib.Bits.{bitOr}

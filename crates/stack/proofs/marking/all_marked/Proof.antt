@@ -4,7 +4,6 @@ use mathlib.Core.List.{[]}
 use Prim.Native.Nat.{_+_, _-_, _≤_, _<_}
 use native.Mathlib.Omega.{arith}
 use native.Mathlib.Nat.{zero-add}
-use native.Mathlib.Numerals.{add-one}
 use denote.Ref.{now}
 use lib.Dec.{eqb}
 use lib.ListN.{length}
@@ -43,7 +42,7 @@ loop-again c =
     let s = seen-more (l .seen) (at part (l .k)) (l .inv .1) in
     let z : 0 + l .k ≡ l .k = zero-add (l .k) in
     let m = rw z at (marked-more (length part) part [] 0 (l .k)) in
-    (omega arith, s .1, s .0 ∙ rw (l .inv .2, add-one (l .k)) (sym m))
+    (omega arith, s .1, s .0 ∙ rw (l .inv .2) (sym m))
 
 returns : tie.Need-returns Inv-loop μ-loop
 returns c =

@@ -5,8 +5,7 @@ use denote.Ref.{now}
 use lib.Bits.{and-mask}
 use Rattle.number.specs.Little.{word}
 use Rattle.number.specs.Parts.{at}
-use Rattle.plain.specs.Ops.{rangeMarked}
-use Rattle.stack.proofs.MarkLaws.{marked-more, word-marked}
+use Rattle.stack.proofs.MarkLaws.{marked-one, word-marked}
 use borrow.Author.Needs.{needs}
 use Rattle.stack.proofs.marking.part_marked.Statement.{statement}
 use Rattle.stack.proofs.marking.part_marked.Tie as tie
@@ -35,10 +34,9 @@ shared-slice-read-result : tie.Need-shared-slice-read-result
 shared-slice-read-result c = search needs
 
 returns-3 : tie.Need-returns-3
-unfolding rangeMarked
 returns-3 c =
     let P = now (c .before .before .before .before .before .args .part) in
-    rw (c .before .if3 .taken, and-mask (at P 0) 1) (sym (marked-more 1 P [] 0 0))
+    rw (c .before .if3 .taken, and-mask (at P 0) 1) (sym (marked-one 1 P [] 0))
 
 all-marked-requires : tie.Need-all-marked-requires
 all-marked-requires c κs = search needs
