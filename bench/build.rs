@@ -1,5 +1,5 @@
-//! Links the archive that `rt staticlib monitor_c` writes, and beside it, where BENCH_BEFORE names one, an earlier build whose symbols
-//! begin with `before_`.
+//! Links the archive that `rt staticlib monitor_c` writes; or, where BENCH_BEFORE names their folder, a copy of it and beside it an
+//! earlier build whose symbols begin with `before_` (before.sh).
 
 use std::path::{Path, PathBuf};
 
@@ -15,9 +15,10 @@ fn link(archive: &Path) {
 fn main() {
     println!("cargo:rerun-if-env-changed=BENCH_BEFORE");
     let here = Path::new(env!("CARGO_MANIFEST_DIR"));
-    link(&here.join("../target/staticlib/libmonitor_c.a"));
-    if let Some(before) = std::env::var_os("BENCH_BEFORE") {
-        link(&PathBuf::from(before));
-        println!("cargo:rustc-cfg=before");
-    }
+    let Some(folder) = std::env::var_os("BENCH_BEFORE").map(PathBuf::from) else {
+        return link(&here.join("../target/staticlib/libmonitor_c.a"));
+    };
+    link(&folder.join("libmonitor_this.a"));
+    link(&folder.join("libmonitor_before.a"));
+    println!("cargo:rustc-cfg=before");
 }

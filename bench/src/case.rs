@@ -8,18 +8,18 @@ use model::program::{decode, Record};
 use model::random::Random;
 
 use crate::lists::Calls;
+use crate::places::{self, Room};
 use crate::state::{filled, roomy, State};
 
 /// Addresses asked for, in no order.
 const QUERIES: usize = 1024;
-/// Places that are recorded and freed again, at most.
-const PLACES: usize = 200;
 
 /// What a case is, for the targets.
 #[derive(Clone, Copy, PartialEq, Eq)]
 pub enum Group {
     Reading,
     Next,
+    /// Marks set, and marks of whole blocks looked at: without a target.
     Marking,
     Placing,
     Whole,
@@ -39,7 +39,7 @@ pub struct Case {
 }
 
 impl Case {
-    fn new(title: impl Into<String>, group: Group, state: usize, timed: Vec<Call>) -> Self {
+    pub fn new(title: impl Into<String>, group: Group, state: usize, timed: Vec<Call>) -> Self {
         Case {
             title: title.into(),
             group,
@@ -56,6 +56,11 @@ impl Case {
         let unknown = |call: &Call| matches!(call, Call::Next { .. } | Call::Audit | Call::Clear);
         !self.timed.iter().any(unknown)
     }
+
+    /// Whether its calls set marks or look at them.
+    pub fn of_marks(&self) -> bool {
+        matches!(self.calls, Calls::Written(_) | Calls::Initialised(_))
+    }
 }
 
 pub struct Plan {
@@ -64,14 +69,14 @@ pub struct Plan {
 }
 
 const FILLED: usize = 0;
-const ROOMY: usize = 1;
+pub const ROOMY: usize = 1;
 
 /// All states and cases; the traces are given as their files.
 pub fn plan(traces: &[(&'static str, Vec<u8>)]) -> Plan {
     let mut states = vec![filled(), roomy()];
     let mut cases = readings(&states[FILLED]);
     cases.extend(markings(&states[FILLED], &states[ROOMY]));
-    cases.extend(placings(&states[ROOMY]));
+    cases.extend(places::cases(&states[ROOMY]));
     cases.extend(searches(&states[ROOMY]));
     cases.extend(wholes(&states[FILLED]));
     for (title, file) in traces {
@@ -155,26 +160,26 @@ fn readings(state: &State) -> Vec<Case> {
 
 fn markings(filled: &State, roomy: &State) -> Vec<Case> {
     let areas = [
-        ("heap", filled.heap_blocks(), gap(&roomy.heap_blocks())),
-        ("stack", filled.stack_blocks(), gap(&roomy.stack_blocks())),
+        ("heap", filled.heap_blocks()),
+        ("stack", filled.stack_blocks()),
     ];
     let mut cases = Vec::new();
     for n in [1, 8] {
-        for (area, blocks, _) in &areas {
+        for (area, blocks) in &areas {
             let written = move |_: &Block, address| Call::Written { address, n };
             let timed = queries(blocks, n, half, written);
             let title = format!("written of {n}, {area}");
             cases.push(Case::new(title, Group::Marking, FILLED, timed));
         }
     }
-    for (area, _, (start, _)) in &areas {
-        let base = start.next_multiple_of(8) + 8;
+    for room in Room::of(roomy) {
         let length = 1024;
+        let base = room.bases(length)[0];
         let each = (0..length).map(|i| Call::Written {
             address: base + i,
             n: 1,
         });
-        let title = format!("written of 1, byte by byte, {area}");
+        let title = format!("written of 1, byte by byte, {}", room.area);
         let mut case = Case::new(title, Group::Marking, ROOMY, each.collect());
         case.before = vec![Call::Record { base, length }];
         case.after = vec![Call::Free { base }];
@@ -183,73 +188,22 @@ fn markings(filled: &State, roomy: &State) -> Vec<Case> {
     cases
 }
 
-/// The room between the last two blocks: from the end of one to the base of the other.
-fn gap(blocks: &[Block]) -> (u32, u32) {
-    let [.., one, other] = blocks else {
-        panic!("an area has two blocks at least");
-    };
-    (one.base + one.length, other.base)
-}
-
 /// A number below a million as documents write it.
-fn thousands(number: u32) -> String {
+pub fn thousands(number: u32) -> String {
     match number {
         0..=999 => number.to_string(),
         _ => format!("{},{:03}", number / 1000, number % 1000),
     }
 }
 
-fn placings(state: &State) -> Vec<Case> {
-    let areas = [
-        ("heap", gap(&state.heap_blocks()), 8),
-        ("stack", gap(&state.stack_blocks()), 0),
-    ];
-    let mut cases = Vec::new();
-    for word in ["record", "record_written", "free"] {
-        for (area, (start, end), header) in areas {
-            for length in [8, 64, 1024] {
-                let first = start.next_multiple_of(8) + header;
-                let bases = (first..end - header - length).step_by((length + header) as usize);
-                let title = format!("{word} of {}, {area}", thousands(length));
-                let bases: Vec<u32> = bases.take(PLACES).collect();
-                cases.push(placing(word, title, &bases, length));
-            }
-        }
-    }
-    cases
-}
-
-/// The places taken by one way to record, or given back; what was done is undone untimed.
-fn placing(word: &str, title: String, bases: &[u32], length: u32) -> Case {
-    let each = |call: fn(u32, u32) -> Call| -> Vec<Call> {
-        bases.iter().map(|&base| call(base, length)).collect()
-    };
-    let records = each(|base, length| Call::Record { base, length });
-    let frees = each(|base, _| Call::Free { base });
-    let (before, timed, after) = match word {
-        "record" => (vec![], records, frees),
-        "record_written" => {
-            let written = each(|base, length| Call::RecordWritten { base, length });
-            (vec![], written, frees)
-        }
-        _ => (records, frees, vec![]),
-    };
-    let mut case = Case::new(title, Group::Placing, ROOMY, timed);
-    (case.before, case.after) = (before, after);
-    case
-}
-
 fn searches(state: &State) -> Vec<Case> {
-    [
-        ("heap", state.heap_blocks()),
-        ("stack", state.stack_blocks()),
-    ]
-    .map(|(area, blocks)| {
-        let address = gap(&blocks).1 - 1000;
-        let title = format!("next over 1,000 free bytes, {area}");
-        Case::new(title, Group::Next, ROOMY, vec![Call::Next { address }; 16])
-    })
-    .into()
+    Room::of(state)
+        .map(|room| {
+            let address = room.end - 1000;
+            let title = format!("next over 1,000 free bytes, {}", room.area);
+            Case::new(title, Group::Next, ROOMY, vec![Call::Next { address }; 16])
+        })
+        .into()
 }
 
 fn wholes(state: &State) -> Vec<Case> {

@@ -6,6 +6,7 @@ mod library;
 mod lists;
 mod measure;
 mod memset;
+mod places;
 mod plot;
 mod report;
 mod server;

@@ -82,8 +82,9 @@ fn place(map: Map, address: u32) -> Option<(Area, usize)> {
 /// The parts that a call touches, in number and length as the layouts have it.
 fn touched(map: Map, list: &mut PlainTree, call: Call, parts: &mut Vec<Part>) {
     let mut add = |start, length| parts.push(Part { start, length });
-    let marks = |area, n: u32| match area {
-        Area::Heap => (n as usize).div_ceil(8),
+    // In the heap the bits of a segment are one byte.
+    let marks = |area, start: usize, n: u32| match area {
+        Area::Heap => (start % 8 + n as usize).div_ceil(8),
         Area::Stack => n as usize,
     };
     match call {
@@ -125,7 +126,7 @@ fn touched(map: Map, list: &mut PlainTree, call: Call, parts: &mut Vec<Part>) {
         }
         Call::Initialised { address, n } | Call::Written { address, n } => {
             if let Some((area, start)) = place(map, address) {
-                add(start, READING + marks(area, n));
+                add(start, READING + marks(area, start, n));
             }
         }
     }
@@ -140,5 +141,41 @@ fn placed(map: Map, base: u32, length: u32, mut add: impl FnMut(usize, usize)) {
             add(start + STACK, length);
         }
         None => {}
+    }
+}
+
+#[cfg(test)]
+mod tests {
+    use super::*;
+    use crate::state::roomy;
+
+    /// Where a part begins, and its length.
+    fn parts(call: Call) -> Vec<(usize, usize)> {
+        let state = roomy();
+        let mut parts = Vec::new();
+        touched(state.map, &mut state.list(), call, &mut parts);
+        parts.iter().map(|part| (part.start, part.length)).collect()
+    }
+
+    /// Nine bytes of a reading, and one for each segment of the heap or each byte of the stack.
+    #[test]
+    fn marks() {
+        let heap = roomy().map.heap_start;
+        let stack = roomy().map.stack_start;
+        for (n, segments) in [(8, 1), (64, 8), (1024, 128)] {
+            let address = heap + 80;
+            let whole = vec![(80, 9 + segments)];
+            assert_eq!(parts(Call::Written { address, n }), whole);
+            assert_eq!(parts(Call::Initialised { address, n }), whole);
+            let address = stack + 80;
+            let whole = vec![(131_072 + 80, 9 + n as usize)];
+            assert_eq!(parts(Call::Written { address, n }), whole);
+            assert_eq!(parts(Call::Initialised { address, n }), whole);
+        }
+        let across = Call::Written {
+            address: heap + 87,
+            n: 2,
+        };
+        assert_eq!(parts(across), [(87, 9 + 2)]);
     }
 }

@@ -13,6 +13,7 @@ use crate::targets::targets;
 const PAGE: &str = "BENCHMARKS.md";
 const PLOT: &str = "benchmarks.svg";
 const BEGIN: &str = "<!-- begin: written by ./bench.sh --docs -->";
+const BEGIN_MARKS: &str = "<!-- begin: marks, written by ./bench.sh --before COMMIT --docs -->";
 const END: &str = "<!-- end -->";
 
 pub struct Report {
@@ -35,6 +36,21 @@ fn short(value: f64) -> String {
     }
 }
 
+fn whole(value: f64) -> String {
+    format!("{value:.0}")
+}
+
+fn cell(value: Option<String>) -> String {
+    value.unwrap_or("–".into())
+}
+
+/// The page with another text between a mark and the next end.
+fn replaced(page: &str, begin: &str, text: &str) -> String {
+    let (head, rest) = page.split_once(begin).expect("the page has the first mark");
+    let (_, tail) = rest.split_once(END).expect("the page has the last mark");
+    format!("{head}{begin}\n\n{}\n{END}{tail}", text.trim())
+}
+
 impl Report {
     /// Median nanoseconds a call of a case on a side.
     pub fn time(&self, case: usize, side: usize) -> Option<f64> {
@@ -47,6 +63,16 @@ impl Report {
         Some(ratio(own, self.rows[case][side].as_ref()?))
     }
 
+    /// Instructions a call of a case on a side.
+    fn count(&self, case: usize, side: usize) -> Option<f64> {
+        self.counts.as_ref()?[case][side]
+    }
+
+    /// The side that is the earlier build, where one takes part.
+    fn earlier(&self) -> Option<usize> {
+        self.titles.iter().position(|&title| title == "before")
+    }
+
     pub fn text(&self) -> String {
         let mut text = self.versions.clone();
         let _ = writeln!(text, "\n### Targets\n\n{}", self.target_table());
@@ -57,6 +83,13 @@ impl Report {
             self.time_table()
         );
         let _ = writeln!(text, "### Instructions\n\n{}", self.count_table());
+        if let Some(earlier) = self.earlier() {
+            let _ = writeln!(
+                text,
+                "### Marks before and after\n\n{}",
+                self.mark_table(earlier)
+            );
+        }
         text
     }
 
@@ -77,7 +110,7 @@ impl Report {
                         format!("{} ({})", short(time), short(ratio))
                     }
                     (Some(time), _) => short(time),
-                    _ => "–".into(),
+                    _ => cell(None),
                 };
                 let _ = write!(table, " {cell} |");
             }
@@ -97,8 +130,7 @@ impl Report {
             let _ = write!(table, "| {} |", case.title);
             for (title, count) in self.titles.iter().zip(row) {
                 if *title != "memset" {
-                    let cell = count.map_or("–".into(), |count| format!("{count:.0}"));
-                    let _ = write!(table, " {cell} |");
+                    let _ = write!(table, " {} |", cell(count.map(whole)));
                 }
             }
             table.push('\n');
@@ -115,12 +147,44 @@ impl Report {
                 let (value, verdict) = match reached {
                     Some(value) if value <= target.most => (short(value), "met"),
                     Some(value) => (short(value), "**missed**"),
-                    None => ("–".into(), "peer not there"),
+                    None => (cell(None), "peer not there"),
                 };
                 let _ = writeln!(
                     table,
                     "| {} | {} × {} | {value} | {verdict} |",
                     case.title, target.most, target.peer
+                );
+            }
+        }
+        table
+    }
+
+    /// The cases of marks, this build beside the earlier one.
+    fn mark_table(&self, earlier: usize) -> String {
+        let mut table = format!(
+            "Both builds are linked into one program and measured in the same {} rounds; `after` is the build of this tree. Nanoseconds a call are the median of the rounds, their ratio is the median of the rounds' ratios; instructions a call by callgrind, the loop over the calls included.\n\n\
+             | Case | ns before | ns after | after / before | instructions before | instructions after | after / before |\n\
+             |---|---:|---:|---:|---:|---:|---:|\n",
+            self.rounds
+        );
+        for (index, case) in self.plan.cases.iter().enumerate() {
+            if case.of_marks() {
+                let (before, after) = (self.count(index, earlier), self.count(index, 0));
+                let cells = [
+                    self.time(index, earlier).map(short),
+                    self.time(index, 0).map(short),
+                    self.in_peer(index, earlier).map(short),
+                    before.map(whole),
+                    after.map(whole),
+                    after
+                        .zip(before)
+                        .map(|(after, before)| short(after / before)),
+                ];
+                let _ = writeln!(
+                    table,
+                    "| {} | {} |",
+                    case.title,
+                    cells.map(cell).join(" | ")
                 );
             }
         }
@@ -133,14 +197,26 @@ impl Report {
         fs::write(folder.join(PLOT), plot::plot(self)).expect("the plot is written");
     }
 
-    /// The tables into their place in the page, and the plot beside it.
+    /// A run with an earlier build writes the page's table of marks, any other run all other tables, and the plot beside it.
     pub fn write_docs(&self, docs: &Path) {
         let page = docs.join(PAGE);
         let old = fs::read_to_string(&page).expect("the page is there");
-        let (head, rest) = old.split_once(BEGIN).expect("the page has the first mark");
-        let (_, tail) = rest.split_once(END).expect("the page has the last mark");
-        let new = format!("{head}{BEGIN}\n\n{}\n{END}{tail}", self.text().trim());
-        fs::write(&page, new).expect("the page is written");
-        fs::write(docs.join(PLOT), plot::plot(self)).expect("the plot is written");
+        fs::write(&page, self.page(&old)).expect("the page is written");
+        if self.earlier().is_none() {
+            fs::write(docs.join(PLOT), plot::plot(self)).expect("the plot is written");
+        }
+    }
+
+    fn page(&self, old: &str) -> String {
+        match self.earlier() {
+            Some(earlier) => {
+                let text = format!("{}\n{}", self.versions, self.mark_table(earlier));
+                replaced(old, BEGIN_MARKS, &text)
+            }
+            None => replaced(old, BEGIN, &self.text()),
+        }
     }
 }
+
+#[cfg(test)]
+mod tests;

@@ -1,0 +1,150 @@
+//! Cases over many blocks of one length: recorded, freed, marked whole, looked at whole.
+
+use model::call::Call;
+
+use crate::case::{thousands, Case, Group, ROOMY};
+use crate::state::State;
+
+/// Blocks of a case, at most.
+const PLACES: usize = 200;
+const LENGTHS: [u32; 3] = [8, 64, 1024];
+
+/// The room of an area between its last two blocks.
+pub struct Room {
+    pub area: &'static str,
+    start: u32,
+    pub end: u32,
+    /// Bytes ahead of each block.
+    header: u32,
+}
+
+impl Room {
+    pub fn of(state: &State) -> [Room; 2] {
+        let areas = [
+            ("heap", state.heap_blocks(), 8),
+            ("stack", state.stack_blocks(), 0),
+        ];
+        areas.map(|(area, blocks, header)| {
+            let [.., one, other] = &blocks[..] else {
+                panic!("an area has two blocks at least");
+            };
+            Room {
+                area,
+                start: one.base + one.length,
+                end: other.base,
+                header,
+            }
+        })
+    }
+
+    /// The bases of blocks of one length, one after the other.
+    pub fn bases(&self, length: u32) -> Vec<u32> {
+        let first = self.start.next_multiple_of(8) + self.header;
+        let step = (length + self.header) as usize;
+        let bases = (first..self.end - self.header - length).step_by(step);
+        bases.take(PLACES).collect()
+    }
+}
+
+/// A call for a block of this base and length.
+type Each = fn(u32, u32) -> Call;
+
+const RECORD: Each = |base, length| Call::Record { base, length };
+const RECORD_WRITTEN: Each = |base, length| Call::RecordWritten { base, length };
+const FREE: Each = |base, _| Call::Free { base };
+const WRITTEN: Each = |address, n| Call::Written { address, n };
+const INITIALISED: Each = |address, n| Call::Initialised { address, n };
+
+/// A case's words and group, and what is made on all blocks before, timed and after.
+struct Way(&'static str, Group, Option<Each>, Each, Option<Each>);
+
+#[rustfmt::skip]
+const WAYS: [Way; 5] = [
+    Way("written of a whole block", Group::Marking, Some(RECORD), WRITTEN, Some(FREE)),
+    // All bytes are written, so that every mark is looked at.
+    Way("initialised of a whole block", Group::Marking, Some(RECORD_WRITTEN), INITIALISED, Some(FREE)),
+    Way("record", Group::Placing, None, RECORD, Some(FREE)),
+    Way("record_written", Group::Placing, None, RECORD_WRITTEN, Some(FREE)),
+    Way("free", Group::Placing, Some(RECORD), FREE, None),
+];
+
+/// One case for each way, area and length.
+pub fn cases(state: &State) -> Vec<Case> {
+    let rooms = Room::of(state);
+    let mut cases = Vec::new();
+    for &Way(words, group, before, timed, after) in &WAYS {
+        for room in &rooms {
+            for length in LENGTHS {
+                let bases = room.bases(length);
+                let each = |call: Each| bases.iter().map(|&base| call(base, length)).collect();
+                let title = format!("{words} of {}, {}", thousands(length), room.area);
+                let mut case = Case::new(title, group, ROOMY, each(timed));
+                case.before = before.map(each).unwrap_or_default();
+                case.after = after.map(each).unwrap_or_default();
+                cases.push(case);
+            }
+        }
+    }
+    cases
+}
+
+#[cfg(test)]
+mod tests {
+    use super::*;
+    use crate::state::roomy;
+    use model::map::Area;
+    use model::plain::List;
+
+    const ALL_WRITTEN: [u32; 4] = [1, 0, 0, 0];
+
+    /// Each timed call has one whole block, which is unmarked before `written` and all written before `initialised`.
+    fn check(state: &State, case: &Case, area: Area, length: u32) {
+        let title = &case.title;
+        let mut list = state.list();
+        let mut step = |call| {
+            let answer = list.step(call);
+            assert_eq!(answer.number, 0, "{title}: {call:?}");
+            answer.fields
+        };
+        for &call in &case.before {
+            step(call);
+        }
+        assert!(case.of_marks() && case.timed.len() > 30, "{title}");
+        for &call in &case.timed {
+            let (Call::Written { address, n } | Call::Initialised { address, n }) = call else {
+                panic!("{title}: {call:?}");
+            };
+            let last = Call::Ask {
+                address: address + length - 1,
+            };
+            let marked = |mark| [address, length, length - 1, mark];
+            assert_eq!((n, state.map.area(address)), (length, Some(area)));
+            if let Call::Initialised { .. } = call {
+                assert_eq!(step(call), ALL_WRITTEN, "{title}");
+            } else {
+                assert_eq!(step(last), marked(0), "{title}");
+                step(call);
+            }
+            assert_eq!(step(last), marked(1), "{title}");
+        }
+        for &call in &case.after {
+            step(call);
+        }
+        assert_eq!(list.listed(), state.list().listed(), "{title}");
+    }
+
+    #[test]
+    fn marks_of_whole_blocks() {
+        let state = roomy();
+        let cases = cases(&state);
+        for (area, of) in [(Area::Heap, "heap"), (Area::Stack, "stack")] {
+            for (length, text) in [(8, "8"), (64, "64"), (1024, "1,024")] {
+                for word in ["written", "initialised"] {
+                    let title = format!("{word} of a whole block of {text}, {of}");
+                    let case = cases.iter().find(|case| case.title == title);
+                    check(&state, case.expect(&title), area, length);
+                }
+            }
+        }
+    }
+}
