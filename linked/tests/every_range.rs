@@ -62,7 +62,7 @@ fn of_the_middle(blocks: [(u32, u32); 3]) {
 
 #[test]
 fn of_heap_blocks() {
-    let base = 4120;
+    let base: u32 = 4120;
     for length in [1, 7, 8, 9, 16, 23, 40, 43] {
         let next = (base + length).next_multiple_of(8) + 8;
         of_the_middle([(base - 16, 1), (base, length), (next, 5)]);

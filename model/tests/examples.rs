@@ -51,3 +51,8 @@ fn record_written() {
 fn free_null() {
     assert_eq!(check("free-null.txt"), 64);
 }
+
+#[test]
+fn marks() {
+    assert_eq!(check("marks.txt"), 119);
+}

@@ -19,7 +19,7 @@ use model::reading::View;
 use model::samples::{answered, LONGEST_LINE};
 
 /// The files of tests/data whose right-hand sides are stated.
-const STATED: [&str; 7] = [
+const STATED: [&str; 8] = [
     "document-01.txt",
     "open-points.txt",
     "damage.txt",
@@ -27,6 +27,7 @@ const STATED: [&str; 7] = [
     "odd-bytes.txt",
     "record-written.txt",
     "free-null.txt",
+    "marks.txt",
 ];
 
 fn stored(name: &str) -> String {
