@@ -11,7 +11,7 @@ use Rattle.plain.specs.Ops.{markRange, rangeMarked}
 use Rattle.plain.proofs.MarkedLaws.{mark-next, marked-next}
 use Rattle.heap_layout.specs.Reading.{bitsPlace, writtenBit}
 use Rattle.heap_layout.specs.Ops.{heapOps}
-use Rattle.heap_layout.proofs.RunLaws.{mark-byte, marked-byte}
+use Rattle.heap_layout.proofs.BitsLaws.{mark-byte, marked-byte}
 
 place : (p : ℕ) → bitsPlace 4 8 p ≡ p / 8 * 8 + 4
 place p = omega arith

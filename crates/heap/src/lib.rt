@@ -115,7 +115,7 @@ pub fn stamp(heap: &mut [u8], base: Position, len: u32, written: bool)
     }
 }
 
-// Marks from a segment's start on: each whole segment, then the first bits of the last.
+// Marks from a segment's start to before end: each whole segment, then the first bits of the last.
 fn mark_from(heap: &mut [u8], start: usize, end: usize)
     requires { ⌜ (start % 8 ≡ 0) × (start ≤ end) × (end ≤ length (now heap)) ⌝ }
     requires { ⌜ (length (now heap) % 8 ≡ 0) × (length (now heap) ≤ 131072) ⌝ }
@@ -150,7 +150,7 @@ pub fn mark(heap: &mut [u8], p: Position, n: u32)
     mark_from(heap, segment + 8, first + (n as usize));
 }
 
-// Whether all is marked from a segment's start on: each whole segment, then the first bits of the last.
+// Whether all is marked from a segment's start to before end: each whole segment, then the first bits of the last.
 fn marked_from(heap: &[u8], start: usize, end: usize) -> bool
     requires { ⌜ (start % 8 ≡ 0) × (start ≤ end) × (end ≤ length (now heap)) ⌝ }
     requires { ⌜ (length (now heap) % 8 ≡ 0) × (length (now heap) ≤ 131072) ⌝ }

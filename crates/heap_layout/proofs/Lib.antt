@@ -5,7 +5,7 @@ pub mod LooksLaws
 pub mod ReadImage
 pub mod StampLaws
 pub mod MarkLaws
-pub mod RunLaws
+pub mod BitsLaws
 pub mod WalkLaws
 pub mod WalkSound
 pub mod WalkComplete

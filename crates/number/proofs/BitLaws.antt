@@ -1,4 +1,4 @@
--- Laws of bits, over the bit and the list. Assumes nothing.
+-- Laws of bits: one, a run of them, a list, and their count. Assumes nothing.
 use mathlib.Core.Path.{_≡_, refl, sym, ap, _∙_}
 use mathlib.Core.Bool.{Bool, true, false, not, _&&_}
 use mathlib.Core.List.{List, [], _∷_}
@@ -13,7 +13,7 @@ use lib.Arith.{bin-ind}
 use lib.Bits.{bitAnd, bitOr, or-add-and, and-le-l, and-le-r, and-mask, and-high, or-shr, or-zero-r, or-step, or-shifted, or-shifted-r}
 use lib.Count as count
 use borrow.Author.Tests.{eq-eqb, eqb-true}
-use Rattle.number.proofs.TestLaws.{and-true, same-test}
+use Rattle.number.proofs.TestLaws.{and-true, same-test, same-digits}
 use Rattle.number.specs.Bits.{bit, bitOf, withBit, withBits, bitsSet, ofBits, ones, onesOf}
 
 pub bit-lt : (b : Bool) → bit b < 2
@@ -88,24 +88,15 @@ with-run b j (suc n) m e =
     ap (bitOr b) (q ∙ sym (or-shifted-r (m / 2) (suc j) (2 ^ j) (pow-lt {i = j} {j = suc j} (omega arith)))) ∙ sym (or-assoc b (2 ^ j) (m / 2 * 2 ^ suc j))
     ∙ with-run (bitOr b (2 ^ j)) (suc j) n (m / 2) (omega (arith, pow-suc 2 n))
 
--- a number of ones alone: its last bit is one, and so are the others
-all-ones : (x r p : ℕ) → r < 2 → 0 < p → eqb (x * 2 + r) (p * 2 - 1) ≡ (eqb r 1 && eqb x (p - 1))
-all-ones x r p h k =
-    same-test (eqb (x * 2 + r) (p * 2 - 1)) (eqb r 1 && eqb x (p - 1))
-    (λ e. let t : x * 2 + r ≡ p * 2 - 1 = eqb-true (x * 2 + r) (p * 2 - 1) e in
-    rw (eq-eqb r 1 (omega arith), eq-eqb x (p - 1) (omega arith)))
-    (λ e. let t = and-true (eqb r 1) (eqb x (p - 1)) e in
-    eq-eqb (x * 2 + r) (p * 2 - 1) (omega (arith, eqb-true r 1 (t .0), eqb-true x (p - 1) (t .1))))
-
 run-set : (b j n : ℕ) → eqb (b / 2 ^ j % 2 ^ n) (2 ^ n - 1) ≡ bitsSet b j n
 unfolding bitsSet bitOf
 run-set b j zero = let z : b / 2 ^ j % 2 ^ 0 ≡ 0 = omega arith in rw z
 run-set b j (suc n) =
-    let p : 2 ^ suc n ≡ 2 ^ n * 2 = pow-suc 2 n in
     let d : b / 2 ^ j / 2 ≡ b / 2 ^ suc j = shr-shr b j 1 ∙ ap (λ (x : ℕ). b / 2 ^ x) (add-one j) in
-    let m : b / 2 ^ j % 2 ^ suc n ≡ (b / 2 ^ suc j % 2 ^ n) * 2 + b / 2 ^ j % 2 =
-    ap (λ (x : ℕ). b / 2 ^ j % 2 ^ x) (sym (add-one n)) ∙ mod-pow-add (b / 2 ^ j) n 1 ∙ rw d in
-    rw (m, p, all-ones (b / 2 ^ suc j % 2 ^ n) (b / 2 ^ j % 2) (2 ^ n) (mod-lt (b / 2 ^ j) (lit< tt)) (pow-pos n), run-set b (suc j) n)
+    let m : b / 2 ^ j % 2 ^ suc n ≡ b / 2 ^ j % 2 + 2 * (b / 2 ^ suc j % 2 ^ n) =
+    ap (λ (x : ℕ). b / 2 ^ j % 2 ^ x) (sym (add-one n)) ∙ mod-pow-add (b / 2 ^ j) n 1 ∙ rw d (omega arith) in
+    let p : 2 ^ suc n - 1 ≡ 1 + 2 * (2 ^ n - 1) = omega (arith, pow-suc 2 n, pow-pos n) in
+    rw (m, p, same-digits 2 (b / 2 ^ j % 2) 1 (b / 2 ^ suc j % 2 ^ n) (2 ^ n - 1) (mod-lt (b / 2 ^ j) (lit< tt)) (lit< tt), run-set b (suc j) n)
 
 -- one mask tests them all
 pub mask-run : (b j n m : ℕ) → m + 1 ≡ 2 ^ n → eqb (bitAnd (b / 2 ^ j) m) m ≡ bitsSet b j n

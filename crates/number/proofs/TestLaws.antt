@@ -1,7 +1,9 @@
 -- Laws of tests, and of a range as a test. Assumes nothing.
-use mathlib.Core.Path.{_≡_, refl, sym, _∙_}
+use mathlib.Core.Path.{_≡_, refl, sym, ap, _∙_}
 use mathlib.Core.Bool.{Bool, true, false, cond, _&&_, _||_, true≢false, false≢true}
-use Prim.Native.Nat.{ℕ, _≤_, _<_}
+use Prim.Native.Nat.{ℕ, _+_, _*_, _/_, _%_, _≤_, _<_}
+use native.Mathlib.Omega.{arith}
+use lib.Arith.{digits-div, digits-mod}
 use lib.Dec.{leb, ltb, eqb}
 use borrow.Author.Tests.{lt-ltb, le-ltb, le-leb, lt-leb, eq-eqb, ltb-true, ltb-false, leb-true, eqb-true}
 
@@ -46,6 +48,17 @@ false-of false h = refl
 pub eqb-same : (a b c d : ℕ) → (a ≡ b → c ≡ d) → (c ≡ d → a ≡ b) → eqb a b ≡ eqb c d
 eqb-same a b c d f g =
     same-test (eqb a b) (eqb c d) (λ e. eq-eqb c d (f (eqb-true a b e))) (λ e. eq-eqb a b (g (eqb-true c d e)))
+
+-- two numbers are one exactly if their last digits are, and their rests
+pub same-digits : (m a b r s : ℕ) → a < m → b < m → eqb (a + m * r) (b + m * s) ≡ (eqb a b && eqb r s)
+same-digits m a b r s h k =
+    same-test (eqb (a + m * r) (b + m * s)) (eqb a b && eqb r s)
+    (λ e.
+    let x : r * m + a ≡ s * m + b = omega (arith, eqb-true (a + m * r) (b + m * s) e) in
+    let d : a ≡ b = sym (digits-mod r h) ∙ ap (λ (y : ℕ). y % m) x ∙ digits-mod s k in
+    let q : r ≡ s = sym (digits-div r h) ∙ ap (λ (y : ℕ). y / m) x ∙ digits-div s k in
+    rw (eq-eqb a b d, eq-eqb r s q))
+    (λ e. let t = and-true (eqb a b) (eqb r s) e in eq-eqb (a + m * r) (b + m * s) (rw (eqb-true a b (t .0), eqb-true r s (t .1))))
 
 pub cond-true : {A : Type 0} (c : Bool) (x y : A) → c ≡ true → cond c x y ≡ x
 cond-true c x y e = rw e

@@ -158,7 +158,7 @@ pub fn bit(byte: u8, j: u32) -> u8
     (byte >> j) & 1
 }
 
-// The number whose n low bits are set.
+// The number whose n low bits are set and no other.
 pub fn low_bits(n: u32) -> u32
     requires { ⌜ n < 32 ⌝ }
     ensures { λ r. ⌜ r + 1 ≡ 2 ^ n ⌝ }

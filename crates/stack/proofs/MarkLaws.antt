@@ -3,17 +3,16 @@ use mathlib.Core.Path.{_≡_, refl, ap, _∙_}
 use mathlib.Core.Bool.{_&&_}
 use mathlib.Core.Bool as bool
 use mathlib.Core.List.{List}
-use Prim.Native.Nat.{ℕ, zero, suc, _+_, _-_, _*_, _/_, _%_, _≤_, _<_}
+use Prim.Native.Nat.{ℕ, zero, suc, _+_, _-_, _/_, _%_, _≤_, _<_}
 use native.Mathlib.Omega.{arith}
 use native.Mathlib.Nat.{add-zero}
 use native.Mathlib.Numerals.{add-one}
 use lib.ListN.{length, set, length-set}
 use lib.Bits.{bitAnd, bitOr, or-step, or-zero-r, and-comm, and-mask}
 use lib.Dec.{eqb, lit<}
-use borrow.Author.Tests.{eq-eqb, eqb-true}
 use Rattle.number.specs.Little.{byteOf, word}
 use Rattle.number.specs.Parts.{at, over}
-use Rattle.number.proofs.TestLaws.{same-test, and-true}
+use Rattle.number.proofs.TestLaws.{same-digits}
 use Rattle.number.proofs.PartLaws.{over-above, over-ext, over-more, over-next, over-none}
 use Rattle.number.proofs.WordLaws.{AllBytes, byteOf-or, byteOf-word, word-and}
 use Rattle.plain.specs.Ops.{markRange, rangeMarked}
@@ -42,9 +41,9 @@ mark-word P b w q v e =
         ∙ rw (byteOf-word (at P) b w q i h, byteOf-word (λ i. 1) (λ x. lit< tt) w 0 i h) (or-written (at P (q + i)))
 
 -- bytes marked, and the bytes right after them
-pub mark-next : (P Q R : List ℕ) (q m n : ℕ) → q + m + n ≤ length P → Q ≡ over q m (λ x. withWritten (at P x)) P
+pub over-marked : (P Q R : List ℕ) (q m n : ℕ) → q + m + n ≤ length P → Q ≡ over q m (λ x. withWritten (at P x)) P
     → R ≡ over (q + m) n (λ x. withWritten (at Q x)) Q → R ≡ over q (m + n) (λ x. withWritten (at P x)) P
-mark-next P Q R q m n h e e′ =
+over-marked P Q R q m n h e e′ =
     let f : ℕ → ℕ = λ x. withWritten (at P x) in
     e′
     ∙ rw e
@@ -58,7 +57,7 @@ mark-range size P S p zero h = rw (over-none p (λ q. withWritten (at P q)) P)
 mark-range size P S p (suc n) h =
     let Q : List ℕ = set P p (withWritten (at P p)) in
     let s : 1 + n ≡ suc n = omega arith in
-    let first = rw (s, add-one p) at (mark-next P Q _ p 1 n (omega arith) (mark-one P p (omega arith)) refl) in
+    let first = rw (s, add-one p) at (over-marked P Q _ p 1 n (omega arith) (mark-one P p (omega arith)) refl) in
     rw (← first) (mark-range size Q S (suc p) n (rw (length-set P p (withWritten (at P p))) (omega arith)))
 
 -- the bytes alone count, wherever they stand
@@ -82,20 +81,13 @@ seen-more zero x h = (refl, omega arith)
 seen-more (suc zero) x h = rw (and-comm 1 x, and-mask x 1) (refl, omega arith)
 seen-more (suc (suc s)) x h = absurd (omega arith)
 
--- two words are one exactly if their first bytes are, and the words after those
-word-after : (a b r s : ℕ) → a < 256 → b < 256 → eqb (a + 256 * r) (b + 256 * s) ≡ (eqb a b && eqb r s)
-word-after a b r s h k =
-    same-test (eqb (a + 256 * r) (b + 256 * s)) (eqb a b && eqb r s)
-    (λ e. let x = eqb-true (a + 256 * r) (b + 256 * s) e in rw (eq-eqb a b (omega arith), eq-eqb r s (omega arith)))
-    (λ e. let t = and-true (eqb a b) (eqb r s) e in eq-eqb (a + 256 * r) (b + 256 * s) (rw (eqb-true a b (t .0), eqb-true r s (t .1))))
-
 -- the bits of a word are all ones exactly if each is
 word-bits : (size : ℕ) (P S : List ℕ) (w q p : ℕ) → eqb (word (λ i. bitAnd (at P i) 1) q w) (word (λ i. 1) p w) ≡ rangeMarked (stackOps size) (P, S) q w
 unfolding word rangeMarked stackMarked
 word-bits size P S zero q p = refl
 word-bits size P S (suc w) q p =
     let m : bitAnd (at P q) 1 ≡ at P q % 2 = and-mask (at P q) 1 in
-    word-after (bitAnd (at P q) 1) 1 (word (λ i. bitAnd (at P i) 1) (suc q) w) (word (λ i. 1) (suc p) w) (omega arith) (lit< tt)
+    same-digits 256 (bitAnd (at P q) 1) 1 (word (λ i. bitAnd (at P i) 1) (suc q) w) (word (λ i. 1) (suc p) w) (omega arith) (lit< tt)
     ∙ rw (m, word-bits size P S w (suc q) (suc p))
 
 -- the bits of a word, tested at once

@@ -72,7 +72,8 @@ pub fn mark(primary: &mut [u8], p: Position, n: u32)
     ensures { λ _. ⌜ ((S : List ℕ) → _≡_ {A = StackShadows} (now (primary .exit), S) (markRange (stackOps (length (now (primary .entry)))) (now (primary .entry), S) (p .0) n)) ⌝ }
 {
     let q = p.0;
-    marking::mark_at(primary, q, n as usize);
+    let e = q + (n as usize);
+    marking::mark_part(&mut primary[q..e]);
 }
 
 // Whether the written bit of each of n bytes is set; the secondary, whatever it is, has no part in that.

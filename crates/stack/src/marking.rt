@@ -1,4 +1,4 @@
-// The written bits of a part of the primary shadow, set and tested. A loop is one pass with no early way out, which vectorises.
+// The written bits of a whole part of the primary shadow, set and tested. A loop is one pass with no early way out, which vectorises.
 ghost use mathlib.Core.Path.{_≡_};
 ghost use mathlib.Core.List.{[]};
 ghost use Prim.Native.Nat.{_+_, _≤_};
@@ -12,17 +12,16 @@ const BITS_4: u32 = 0x01010101;
 
 const BITS_8: u64 = 0x0101010101010101;
 
-// Sets the bits of the four bytes from q on, as one number: no byte carries into the next.
-fn mark_four(primary: &mut [u8], q: usize)
-    requires { ⌜ q + 4 ≤ length (now primary) ⌝ }
-    ensures { λ _. ⌜ now (primary .exit) ≡ over q 4 (λ x. withWritten (at (now (primary .entry)) x)) (now (primary .entry)) ⌝ }
+// Sets the bits of the four bytes from k on, as one number: no byte carries into the next.
+fn mark_four(part: &mut [u8], k: usize)
+    requires { ⌜ k + 4 ≤ length (now part) ⌝ }
+    ensures { λ _. ⌜ now (part .exit) ≡ over k 4 (λ q. withWritten (at (now (part .entry)) q)) (now (part .entry)) ⌝ }
 {
-    let word = number::number_at(primary, q) | BITS_4;
-    number::put_at(primary, q, word);
+    let word = number::number_at(part, k) | BITS_4;
+    number::put_at(part, k, word);
 }
 
-// Sets each bit, whatever else the byte holds.
-fn mark_part(part: &mut [u8])
+fn mark_all(part: &mut [u8])
     ensures { λ _. ⌜ now (part .exit) ≡ over 0 (length (now (part .entry))) (λ q. withWritten (at (now (part .entry)) q)) (now (part .entry)) ⌝ }
 {
     let mut i = 0;
@@ -32,33 +31,24 @@ fn mark_part(part: &mut [u8])
     }
 }
 
-fn mark_rest(primary: &mut [u8], q: usize, n: usize)
-    requires { ⌜ q + n ≤ length (now primary) ⌝ }
-    ensures { λ _. ⌜ now (primary .exit) ≡ over q n (λ x. withWritten (at (now (primary .entry)) x)) (now (primary .entry)) ⌝ }
+// Sets each bit, whatever else the byte holds. The commonest lengths have no loop.
+pub fn mark_part(part: &mut [u8])
+    ensures { λ _. ⌜ now (part .exit) ≡ over 0 (length (now (part .entry))) (λ q. withWritten (at (now (part .entry)) q)) (now (part .entry)) ⌝ }
 {
-    let e = q + n;
-    mark_part(&mut primary[q..e]);
-}
-
-// Sets the bits of the n bytes from q on; every other byte stays. The commonest lengths have no loop.
-pub fn mark_at(primary: &mut [u8], q: usize, n: usize)
-    requires { ⌜ q + n ≤ length (now primary) ⌝ }
-    ensures { λ _. ⌜ now (primary .exit) ≡ over q n (λ x. withWritten (at (now (primary .entry)) x)) (now (primary .entry)) ⌝ }
-{
-    if n == 4 {
-        mark_four(primary, q);
+    if part.len() == 4 {
+        mark_four(part, 0);
         return;
     }
-    if n == 8 {
-        mark_four(primary, q);
-        mark_four(primary, q + 4);
+    if part.len() == 8 {
+        mark_four(part, 0);
+        mark_four(part, 4);
         return;
     }
-    if n == 1 {
-        primary[q] = primary[q] | 1;
+    if part.len() == 1 {
+        part[0] = part[0] | 1;
         return;
     }
-    mark_rest(primary, q, n);
+    mark_all(part);
 }
 
 fn all_marked(part: &[u8]) -> bool

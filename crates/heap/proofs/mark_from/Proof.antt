@@ -11,9 +11,6 @@ use Rattle.heap_layout.specs.Ops.{heapOps}
 use Rattle.heap.proofs.MarkLaws.{mark-part, mark-first}
 use Rattle.heap.proofs.mark_from.Statement.{statement}
 use Rattle.heap.proofs.mark_from.Tie as tie
-use Rattle.heap.proofs.mark_from.Reads as reads
-use Rattle.heap.proofs.mark_from.Lts as lts
-use Rattle.number.proofs.set_bits.Reads as set-bits-reads
 
 abbrev Inv-loop : tie.InvT-loop
 Inv-loop heap₀ start end p₀ heap p =

@@ -12,9 +12,6 @@ use Rattle.heap_layout.specs.Ops.{heapOps}
 use Rattle.heap.proofs.MarkLaws.{marked-part, marked-first}
 use Rattle.heap.proofs.marked_from.Statement.{statement}
 use Rattle.heap.proofs.marked_from.Tie as tie
-use Rattle.heap.proofs.marked_from.Reads as reads
-use Rattle.heap.proofs.marked_from.Lts as lts
-use Rattle.number.proofs.bits_set.Reads as bits-set-reads
 
 abbrev Inv-loop : tie.InvT-loop
 Inv-loop heap start end p₀ p =

@@ -22,7 +22,7 @@ returns c =
     let a = c .before .before .before .before .before .before .before .args in
     let v = c .before .before .before .before .number-at in
     let b = c .before .before .before .before .before .before .slice-known .given in
-    c .before .before .put-at .ensures ∙ mark-word (now (a .primary)) (λ q. b q .fits) 4 (a .q) _ (rw (v .ensures))
+    c .before .before .put-at .ensures ∙ mark-word (now (a .part)) (λ q. b q .fits) 4 (a .k) _ (rw (v .ensures))
 
 pub mark-four-spec : {M : Type 1} → statement M
 mark-four-spec = tie.close (tie.spec number-at-requires put-at-requires same-length returns)

@@ -1,68 +1,76 @@
--- `marking::mark_part` meets its contract: the bytes passed are marked, the others as they were. Assumes nothing.
-use mathlib.Core.Path.{_≡_, refl, sym, ap, _∙_}
-use Prim.Native.Nat.{ℕ, _-_, _≤_, _<_}
+-- `stack::marking::mark_part` meets its contract: each length writes over the same bytes. Assumes nothing.
 use native.Mathlib.Omega.{arith}
 use denote.Ref.{now}
-use lib.ListN.{length, length-set}
+use Rattle.number.specs.Parts.{at}
+use Rattle.stack.proofs.MarkLaws.{or-written, mark-one, over-marked}
 use borrow.Author.Needs.{needs}
-use Rattle.number.specs.Parts.{at, over}
-use Rattle.number.proofs.PartLaws.{over-none}
-use Rattle.stack_layout.specs.Ops.{withWritten}
-use Rattle.stack.proofs.FillLaws.{fill-step, fill-read}
-use Rattle.stack.proofs.MarkLaws.{or-written}
 use Rattle.stack.proofs.marking.mark_part.Statement.{statement}
 use Rattle.stack.proofs.marking.mark_part.Tie as tie
 
-abbrev Inv-loop : tie.InvT-loop
-Inv-loop part₀ i₀ part i =
-    (i ≤ length part₀) × (length part ≡ length part₀) × (part ≡ over 0 i (λ q. withWritten (at part₀ q)) part₀)
+mark-four-requires : tie.Need-mark-four-requires
+mark-four-requires c κs = search needs
 
-abbrev μ-loop : tie.MeasureT-loop
-μ-loop part₀ i₀ part i = length part₀ - i
-
-loop-holds : tie.Need-loop-holds Inv-loop μ-loop
-loop-holds c = (search needs, refl, sym (over-none 0 _ _))
-
-slice-read-part : tie.Need-slice-read-part Inv-loop μ-loop
-slice-read-part c = search needs
-
-slice-write-part : tie.Need-slice-write-part Inv-loop μ-loop
-slice-write-part c = search needs
-
-add-i : tie.Need-add-i Inv-loop μ-loop
-add-i c = search needs
-
-loop-less : tie.Need-loop-less Inv-loop μ-loop
-loop-less c = search needs
-
-loop-again : tie.Need-loop-again Inv-loop μ-loop
-loop-again c =
-    let part₀ = now (c .before .before .before .args .part) in
-    let l = c .before .before .loop in
-    let h : l .i < length part₀ = omega arith in
-    let f : ℕ → ℕ = λ q. withWritten (at part₀ q) in
-    (omega arith, simp length-set (l .inv .1), fill-step part₀ (l .part) (l .i) _ f h (l .inv .2) (or-written (at (l .part) (l .i)) ∙ ap withWritten (fill-read part₀ (l .part) (l .i) f h (l .inv .2))))
-
-same-length : tie.Need-same-length Inv-loop μ-loop
+same-length : tie.Need-same-length
 same-length c = search needs
 
-returns : tie.Need-returns Inv-loop μ-loop
+returns : tie.Need-returns
 returns c =
-    let l = c .before .loop in
-    let e : l .i ≡ length (now (c .before .before .args .part)) = omega arith in
-    rw e at (l .inv .2)
+    rw (c .before .before .before .before .if1 .taken) (c .before .before .mark-four .ensures)
+
+mark-four-requires-2 : tie.Need-mark-four-requires-2
+mark-four-requires-2 c κs = search needs
+
+mark-four-requires-3 : tie.Need-mark-four-requires-3
+mark-four-requires-3 c κs = search needs
+
+same-length-2 : tie.Need-same-length-2
+same-length-2 c = search needs
+
+returns-2 : tie.Need-returns-2
+returns-2 c =
+    let a = c .before .before .before .before .before .before .before .before .before .before .before .args in
+    rw (c .before .before .before .before .before .before .before .before .if2 .taken)
+    (over-marked (now (a .part)) _ _ 0 4 4 (omega arith) (c .before .before .before .before .before .before .mark-four2 .ensures) (c .before .before .mark-four3 .ensures))
+
+slice-read-part : tie.Need-slice-read-part
+slice-read-part c = search needs
+
+slice-write-part : tie.Need-slice-write-part
+slice-write-part c = search needs
+
+same-length-3 : tie.Need-same-length-3
+same-length-3 c = search needs
+
+returns-3 : tie.Need-returns-3
+returns-3 c =
+    let a = c .before .before .before .before .before .args in
+    let P = now (a .part) in
+    rw (c .before .if3 .taken, or-written (at P 0)) (mark-one P 0 (omega arith))
+
+mark-all-requires : tie.Need-mark-all-requires
+mark-all-requires c κs = search needs
+
+same-length-4 : tie.Need-same-length-4
+same-length-4 c = search needs
+
+returns-4 : tie.Need-returns-4
+returns-4 c = search needs
 
 pub mark-part-spec : {M : Type 1} → statement M
 mark-part-spec =
     tie.close
     (tie.spec
-    Inv-loop
-    μ-loop
-    loop-holds
+    mark-four-requires
+    same-length
+    returns
+    mark-four-requires-2
+    mark-four-requires-3
+    same-length-2
+    returns-2
     slice-read-part
     slice-write-part
-    add-i
-    loop-less
-    loop-again
-    same-length
-    returns)
+    same-length-3
+    returns-3
+    mark-all-requires
+    same-length-4
+    returns-4)
