@@ -9,7 +9,8 @@ name="the archive ${build##*/}"
 if [ ! -f "$archive" ]; then
   commit=$(git rev-parse --verify "$build^{commit}")
   name="commit $(git rev-parse --short "$commit"), built from its own sources"
-  folder=$out/before-$commit
+  # Another toolchain makes another archive of the same sources.
+  folder=$out/before-$commit-$(rt version | tr -cs 'A-Za-z0-9\n' -)
   archive=$folder/target/staticlib/libmonitor_c.a
   if [ ! -f "$archive" ]; then
     mkdir -p "$folder"
@@ -17,7 +18,9 @@ if [ ! -f "$archive" ]; then
     (cd "$folder" && rt staticlib monitor_c)
   fi
 fi
-echo "- Before: $name" > "$out/before-build"
+this="commit $(git rev-parse --short HEAD)"
+if [ -n "$(git status --porcelain -- crates crates.txt)" ]; then this="$this, with changes"; fi
+printf -- '- Before: %s\n- After: %s\n' "$name" "$this" > "$out/before-build"
 symbols() { nm --defined-only --extern-only "$1" | sed -n 's/^[0-9a-f]* [A-Z] //p' | sort; }
 
 # Every symbol that the archive defines for others gets another name; what it uses of others keeps its own.

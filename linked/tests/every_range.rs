@@ -52,11 +52,11 @@ fn every_range(list: &PlainList, base: u32, length: u32) {
     }
 }
 
-/// Every range of the middle one of three blocks.
-fn of_the_middle(blocks: [(u32, u32); 3]) {
+/// Every range of the second of these blocks.
+fn of_the_second(blocks: &[(u32, u32)]) {
     for pattern in 0..PATTERNS {
         let (base, length) = blocks[1];
-        every_range(&marked(&blocks, pattern), base, length);
+        every_range(&marked(blocks, pattern), base, length);
     }
 }
 
@@ -65,7 +65,7 @@ fn of_heap_blocks() {
     let base: u32 = 4120;
     for length in [1, 7, 8, 9, 16, 23, 40, 43] {
         let next = (base + length).next_multiple_of(8) + 8;
-        of_the_middle([(base - 16, 1), (base, length), (next, 5)]);
+        of_the_second(&[(base - 16, 1), (base, length), (next, 5)]);
     }
 }
 
@@ -73,7 +73,19 @@ fn of_heap_blocks() {
 fn of_stack_blocks() {
     for length in [1, 4, 5, 8, 9, 15, 16, 33, 40, 43] {
         for base in [8197, 8200] {
-            of_the_middle([(base - 1, 1), (base, length), (base + length, 5)]);
+            of_the_second(&[(base - 1, 1), (base, length), (base + length, 5)]);
         }
+    }
+}
+
+#[test]
+fn at_the_end_of_an_area() {
+    for length in [8, 16, 40] {
+        let base = MAP.heap_start + MAP.heap_size - length;
+        of_the_second(&[(base - 16, 1), (base, length)]);
+    }
+    for length in [1, 4, 8, 13, 40] {
+        let base = MAP.stack_start + MAP.stack_size - length;
+        of_the_second(&[(base - 1, 1), (base, length)]);
     }
 }
