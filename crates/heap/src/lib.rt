@@ -137,6 +137,7 @@ pub fn mark(heap: &mut [u8], p: Position, n: u32)
     ensures { λ _. ⌜ now (heap .exit) ≡ markRange (heapOps 4 8 (length (now (heap .entry)))) (now (heap .entry)) (p .0) n ⌝ }
 {
     let Position(first) = p;
+    // Of no position there may be no segment: p may be the shadow's end.
     if n == 0 {
         return;
     }
@@ -176,6 +177,7 @@ pub fn marked(heap: &[u8], p: Position, n: u32) -> bool
     ensures { λ r. ⌜ r ≡ rangeMarked (heapOps 4 8 (length (now (heap .entry)))) (now (heap .entry)) (p .0) n ⌝ }
 {
     let Position(first) = p;
+    // As above.
     if n == 0 {
         return true;
     }
