@@ -1,4 +1,4 @@
--- Parts written one after the other, and cells as two numbers of W bytes. Assumes nothing.
+-- Two numbers of W bytes, one after the other, and cells as such. Assumes nothing.
 use mathlib.Core.Path.{_≡_, ap, _∙_}
 use mathlib.Core.Bool.{Bool, cond}
 use mathlib.Core.List.{List}
@@ -8,38 +8,16 @@ use lib.ListN.{length, take, drop, drop-of-length-le}
 use lib.Seq.{take-all}
 use lib.Dec.{ltb}
 use lib.Pow.{pow-mono}
-use borrow.Author.Tests.{lt-ltb, le-ltb, ltb-true, ltb-false}
+use borrow.Author.Tests.{lt-ltb, le-ltb}
 use Rattle.number.specs.Little.{byteOf}
 use Rattle.number.specs.Bits.{ofBits}
-use Rattle.number.specs.Parts.{at, over}
+use Rattle.number.specs.Parts.{over}
 use Rattle.number.proofs.TestLaws.{Test, is-true, is-false, test}
 use Rattle.number.proofs.LittleLaws.{byteOf-zero}
 use Rattle.number.proofs.BitLaws.{ofBits-lt}
-use Rattle.number.proofs.PartLaws.{length-over, over-in, over-below, over-above, is-over, over-ext}
+use Rattle.number.proofs.PartLaws.{over-next, over-ext}
 use Rattle.heap_layout.specs.Image.{free, header, segment, cellByte}
 use Rattle.heap.specs.Pair.{pairByte}
-
--- ---- parts
-
--- two parts that follow one another are one
-pub over-join : (a n m : ℕ) (f g : ℕ → ℕ) (h : List ℕ) → ((q : ℕ) → a + n ≤ q → q < a + n + m → g q ≡ f q)
-    → over (a + n) m g (over a n f h) ≡ over a (n + m) f h
-over-join a n m f g h e =
-    is-over a (n + m) f h (over (a + n) m g (over a n f h)) (length-over (a + n) m g (over a n f h) ∙ l)
-    (λ q k x y. into q k x y (test (ltb q (a + n))))
-    (λ q k x. over-below (a + n) m g (over a n f h) q (rw l k) (omega arith) ∙ over-below a n f h q k x)
-    (λ q k x. over-above (a + n) m g (over a n f h) q (rw l k) (omega arith) ∙ over-above a n f h q k (omega arith))
-  where
-    l : length (over a n f h) ≡ length h
-    l = length-over a n f h
-
-    into : (q : ℕ) → q < length h → a ≤ q → q < a + (n + m) → Test (ltb q (a + n)) → at (over (a + n) m g (over a n f h)) q ≡ f q
-    into q k x y (is-true t) =
-        let u = ltb-true q (a + n) t in
-        over-below (a + n) m g (over a n f h) q (rw l k) u ∙ over-in a n f h q k x u
-    into q k x y (is-false t) =
-        let u = ltb-false q (a + n) t in
-        over-in (a + n) m g (over a n f h) q (rw l k) u (omega arith) ∙ e q u (omega arith)
 
 -- two numbers, one after the other
 pub pair-over : (W a low high : ℕ) (h : List ℕ)
@@ -48,7 +26,7 @@ unfolding pairByte
 pair-over W a low high h =
     ap (over (a + W) W (λ q. byteOf high (q - (a + W))))
     (over-ext a W (λ q. byteOf low (q - a)) (λ q. pairByte W low high (q - a)) h (λ q x y. rw (lt-ltb (q - a) W (omega arith))))
-    ∙ over-join a W W (λ q. pairByte W low high (q - a)) (λ q. byteOf high (q - (a + W))) h
+    ∙ over-next a W W (λ q. pairByte W low high (q - a)) (λ q. byteOf high (q - (a + W))) h
     (λ q x y. let e : q - a - W ≡ q - (a + W) = omega arith in rw (le-ltb (q - a) W (omega arith), e))
 
 -- ---- cells

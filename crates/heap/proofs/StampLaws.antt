@@ -8,14 +8,14 @@ use lib.ListN.{take, drop, replicate, length-take, length-drop, length-replicate
 use borrow.Author.Tests.{lt-ltb, le-leb, eq-eqb, ne-eqb}
 use Rattle.number.specs.Bits.{ofBits}
 use Rattle.number.specs.Parts.{over}
-use Rattle.number.proofs.PartLaws.{over-ext}
+use Rattle.number.proofs.PartLaws.{over-next, over-ext}
 use Rattle.plain.specs.Block.{begun}
 use Rattle.plain.specs.Areas.{segments}
 use Rattle.plain.specs.Layer.{layer}
 use Rattle.heap_layout.specs.Image.{covers, own, heapByte}
 use Rattle.heap_layout.specs.Ops.{placeLength, heapStamp}
 use Rattle.heap.specs.Pair.{pairByte}
-use Rattle.heap.proofs.PairLaws.{over-join, cell-header, cell-segment}
+use Rattle.heap.proofs.PairLaws.{cell-header, cell-segment}
 
 -- ---- the written bits of a segment
 
@@ -80,7 +80,7 @@ module _ (w : Bool) (b l : ℕ) (x : 8 ≤ b) (y : b % 8 ≡ 0) where
   pub placed-more : (d n : ℕ) (h : List ℕ) → d % 8 ≡ 0 → d < l → n ≡ min 8 (l - d)
       → over (b + d) 8 (λ q. pairByte 4 (d + 1) (ofBits (replicate n w)) (q - (b + d))) (placed w b l d h) ≡ placed w b l (d + 8) h
   placed-more d n h z k s =
-      over-join b d 8 (heapByte 4 8 (begun w b l ∷ [])) (λ q. pairByte 4 (d + 1) (ofBits (replicate n w)) (q - (b + d))) h (λ q u v. sym (begun-segment d n q z k s u v))
+      over-next b d 8 (heapByte 4 8 (begun w b l ∷ [])) (λ q. pairByte 4 (d + 1) (ofBits (replicate n w)) (q - (b + d))) h (λ q u v. sym (begun-segment d n q z k s u v))
 
   pub placed-all : (d : ℕ) (h : List ℕ) → d % 8 ≡ 0 → l ≤ d → d < l + 8
       → placed w b l d (over (b - 8) 8 (λ q. pairByte 4 0 l (q - (b - 8))) h) ≡ heapStamp 4 8 h (begun w b l)
@@ -89,4 +89,4 @@ module _ (w : Bool) (b l : ℕ) (x : 8 ≤ b) (y : b % 8 ≡ 0) where
       let n : 8 + (l + 7) / 8 * 8 ≡ 8 + d = omega arith in
       let e : b - 8 + 8 ≡ b = omega arith in
       rw (length-replicate l w, n, ← over-ext (b - 8) 8 (heapByte 4 8 (begun w b l ∷ [])) (λ q. pairByte 4 0 l (q - (b - 8))) h (λ q s t. begun-header q s (omega arith)))
-      (rw e at (over-join (b - 8) 8 d (heapByte 4 8 (begun w b l ∷ [])) (heapByte 4 8 (begun w b l ∷ [])) h (λ q s t. refl)))
+      (rw e at (over-next (b - 8) 8 d (heapByte 4 8 (begun w b l ∷ [])) (heapByte 4 8 (begun w b l ∷ [])) h (λ q s t. refl)))

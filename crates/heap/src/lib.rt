@@ -177,7 +177,7 @@ pub fn marked(heap: &[u8], p: Position, n: u32) -> bool
     ensures { λ r. ⌜ r ≡ rangeMarked (heapOps 4 8 (length (now (heap .entry)))) (now (heap .entry)) (p .0) n ⌝ }
 {
     let Position(first) = p;
-    // As above.
+    // As in `mark`.
     if n == 0 {
         return true;
     }
