@@ -38,6 +38,11 @@ fn document_01() {
 }
 
 #[test]
+fn calls_on_damage() {
+    assert_eq!(check("calls-on-damage.txt"), 131);
+}
+
+#[test]
 fn odd_bytes() {
     assert_eq!(check("odd-bytes.txt"), 49);
 }

@@ -19,11 +19,12 @@ use model::reading::View;
 use model::samples::{answered, LONGEST_LINE};
 
 /// The files of tests/data whose right-hand sides are stated.
-const STATED: [&str; 8] = [
+const STATED: [&str; 9] = [
     "document-01.txt",
     "open-points.txt",
     "damage.txt",
     "near-damage.txt",
+    "calls-on-damage.txt",
     "odd-bytes.txt",
     "record-written.txt",
     "free-null.txt",
@@ -127,6 +128,30 @@ fn table_1_is_stored_in_both_directions() {
             sides[&format!("on: pri@{position}={byte} : ask {address}")],
             stated
         );
+    }
+}
+
+/// By the heap's bytes alone, and by the stack's alone.
+#[test]
+fn each_call_that_can_give_8_does() {
+    let sides = right_hand_sides();
+    let refused: Vec<_> = sides.iter().filter(|s| s.1.starts_with('8')).collect();
+    for word in [
+        "free",
+        "written",
+        "ask",
+        "valid",
+        "initialised",
+        "next",
+        "audit",
+    ] {
+        for other in [["pri@", "sec@"], ["heap@", "heap@"]] {
+            let alone = |question: &str| {
+                question.contains(&format!(" : {word}"))
+                    && !other.iter().any(|o| question.contains(o))
+            };
+            assert!(refused.iter().any(|s| alone(s.0)), "{word} {other:?}");
+        }
     }
 }
 

@@ -1,6 +1,6 @@
 -- What the first record decodes to in each case, and the kind and length of a decoded request. Assumes nothing.
 use mathlib.Core.Path.{_≡_, refl, sym, _∙_}
-use mathlib.Core.Bool.{_&&_}
+use mathlib.Core.Bool.{true, false, _&&_, _||_}
 use mathlib.Core.List.{List, _++_}
 use mathlib.Core.Logic.{_≢_}
 use mathlib.Core.Option.{Option, none, some}
@@ -9,16 +9,30 @@ use native.Mathlib.Omega.{arith}
 use lib.ListN.{length, length-append, List·getD-append}
 use lib.Dec.{leb, eqb}
 use borrow.Author.Tests.{le-leb, lt-leb, eq-eqb, ne-eqb, leb-true, eqb-true}
-use Rattle.number.proofs.TestLaws.{Test, is-true, is-false, test, and-true, and-false-r}
+use Rattle.number.proofs.TestLaws.{Test, is-true, is-false, test, and-true, and-false-r, or-false}
 use Rattle.number.specs.Little.{word}
 use Rattle.number.specs.Parts.{at}
 use Rattle.number.proofs.LittleLaws.{word-same}
-use Rattle.calls_format.specs.Records.{Request, lengthField, kindField, fieldsOf, requestOf, recordLength, decodeAs, decode}
-use Rattle.calls_format.specs.Decoded.{kindOf, lengthFor, lengthOf, longest}
+use Rattle.plain.specs.Call as plain
+use Rattle.calls_format.specs.Records.{Request, call, lengthField, kindField, fieldsOf, requestOf, recordLength, decodeAs, decode}
+use Rattle.calls_format.specs.Decoded.{kindOf, lengthFor, lengthOf, longest, writes}
 
 -- a kind that is known to be j has j's length
 pub reach : {k n : ℕ} (j : ℕ) → k ≡ j → lengthOf k ≤ n → lengthOf j ≤ n
 reach j e h = rw e at h
+
+-- the last of the kinds whose calls write
+pub last-write : (k : ℕ) → writes k ≡ true → k ≢ 2 → k ≢ 3 → k ≢ 4 → k ≡ 10
+last-write k h a b c = eqb-true k 10 (rw (ne-eqb k 2 a, ne-eqb k 3 b, ne-eqb k 4 c) at h)
+
+-- of the kinds whose calls only read, the one that is left at the end
+pub last-read : (k : ℕ) (l : List ℕ) → k ≢ 1 → writes k ≡ false → k ≢ 5 → k ≢ 6 → k ≢ 7 → k ≢ 8 → call plain.audit ≡ requestOf k l
+unfolding requestOf
+last-read k l z h a b c d =
+    let f = or-false (eqb k 2 || eqb k 3 || eqb k 4) (eqb k 10) h in
+    let g = or-false (eqb k 2 || eqb k 3) (eqb k 4) (f .0) in
+    let i = or-false (eqb k 2) (eqb k 3) (g .0) in
+    rw (ne-eqb k 1 z, i .0, i .1, g .1, ne-eqb k 5 a, ne-eqb k 6 b, ne-eqb k 7 c, ne-eqb k 8 d, f .1)
 
 -- ---- the cases of a record
 

@@ -1,13 +1,14 @@
 -- What the code's requests stand for, and the kind and length that a request's record has. Assumes nothing.
-use mathlib.Core.Bool.{true, false}
+use mathlib.Core.Bool.{Bool, true, false, _||_}
 use mathlib.Core.Option.{Option, none, some}
 use Prim.Native.Nat.{ℕ}
+use lib.Dec.{eqb}
 use Rattle.plain.specs.Call.{Call, clear, begin, free, written, ask, valid, initialised, next, audit}
 use Rattle.monitor_base.specs.Answers.{callOf}
-use Rattle.calls_format.specs.declared.records.Request as code
-use Rattle.calls_format.specs.declared.records.Request.the-variants as case
-use Rattle.calls_format.specs.declared.records.Decoded.{Decoded}
-use Rattle.calls_format.specs.declared.records.Decoded.the-variants as decoded
+use Rattle.calls_format.specs.declared.Request as code
+use Rattle.calls_format.specs.declared.Request.the-variants as case
+use Rattle.calls_format.specs.declared.Decoded.{Decoded}
+use Rattle.calls_format.specs.declared.Decoded.the-variants as decoded
 use Rattle.calls_format.specs.Records.{Request, newMap, call, fieldsOf, recordLength}
 
 abbrev pub requested : code.Request → Request
@@ -48,3 +49,7 @@ lengthOf k = lengthFor (fieldsOf k)
 -- the length of the longest record, that of a new map
 abbrev pub longest : ℕ
 longest = 20
+
+-- the kinds whose calls write; every other kind but the map's, 1, has calls that only read
+abbrev pub writes : (kind : ℕ) → Bool
+writes k = eqb k 2 || eqb k 3 || eqb k 4 || eqb k 10

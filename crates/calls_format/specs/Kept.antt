@@ -7,7 +7,7 @@ use Rattle.plain.specs.Call as plain
 use Rattle.shadows.specs.Shadows.{Shadows}
 use Rattle.monitor_base.specs.declared.Answer.{Answer}
 use Rattle.monitor_base.specs.Answers.{answerOf}
-use Rattle.calls_format.specs.declared.serving.Served.{Served}
+use Rattle.calls_format.specs.declared.Served.{Served}
 use Rattle.calls_format.specs.Running.{State}
 
 -- the shadows: of each buffer as many bytes as the area has

@@ -5,3 +5,4 @@ pub mod Writing
 pub mod Running
 pub mod Kept
 pub mod Program
+pub mod NewMapSamples

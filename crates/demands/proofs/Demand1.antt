@@ -1,181 +1,183 @@
--- Demand 1, proved. Assumes nothing.
-use mathlib.Core.Path.{_≡_, refl, sym, ap, _∙_}
-use mathlib.Core.Logic.{_≢_, _⊎_, inl, inr}
-use mathlib.Core.Bool.{Bool, true, _&&_, _||_, false≢true}
+-- Demand 1, proved: see specs/Demand1.antt for what each says. Assumes nothing.
+use mathlib.Core.Path.{_≡_, refl, sym, _∙_}
+use mathlib.Core.Logic.{_≢_, inl, inr}
+use mathlib.Core.Bool.{Bool, true, false, cond, not, _&&_, false≢true}
 use mathlib.Core.List.{List, [], _∷_, _++_}
-use mathlib.Core.Option.{Option, none, some}
-use Prim.Native.Nat.{ℕ, zero, suc, _≤_}
+use Prim.Native.Nat.{ℕ, zero, suc, _≤_, _<_}
 use native.Mathlib.Omega.{arith}
-use lib.Dec.{leb, eqb}
-use borrow.Author.Tests.{leb-true, eqb-true}
 use Rattle.number.specs.Parts.{Each}
-use Rattle.number.proofs.TestLaws.{Test, is-true, is-false, test, and-true}
+use Rattle.number.proofs.TestLaws.{Test, is-true, is-false, test}
 use Rattle.map.specs.declared.Map.{Map}
+use Rattle.map.specs.Map.{goodMap}
 use Rattle.plain.specs.Areas.{mapRules}
-use Rattle.plain.specs.Reading.{Reading, nothing, block, damaged, Tally, tally}
-use Rattle.plain.specs.Rules.{Rules}
-use Rattle.plain.specs.Ops.{Ops}
 use Rattle.plain.specs.Call.{Call, clear, begin, free, written, ask, valid, initialised, next, audit, Answer, number, refusal, Refusal, firstOf, unless}
-use Rattle.plain.specs.ShadowCalls.{askAnswer, nextAnswer, auditAnswer, reading, search, shadowsAfter, shadowAnswer}
-use Rattle.plain.proofs.RunLaws.{unless-number}
-use Rattle.shadows.specs.Shadows.{Shadows, shadowOps}
+use Rattle.plain.specs.ShadowCalls.{shadowsAfter, shadowAnswer}
+use Rattle.shadows.specs.Shadows.{Shadows, lengthsFit, shadowOps}
 use Rattle.monitor_base.specs.Calls.{refusals, call}
-use Rattle.demands.specs.Demand1.{NoneHolds, RefusedAltersNothing, FirstThatHolds, AcceptedExactly, LowestWins}
-
--- what a call answers where it is not refused has number 0
-accepted-0 : {S : Type 0} (R : Rules) (O : Ops S) (c : Call) (s : S) → number (shadowAnswer R O c s) ≡ 0
-accepted-0 R O clear s = refl
-accepted-0 R O (begin w b l) s = refl
-accepted-0 R O (free x) s = refl
-accepted-0 R O (written a n) s = refl
-accepted-0 R O (ask a) s = go (reading R O s a)
-  where
-    go : (r : Reading) → number (askAnswer r) ≡ 0
-    go nothing = refl
-    go (block b l o m) = refl
-    go damaged = refl
-accepted-0 R O (valid a n from) s = refl
-accepted-0 R O (initialised a n) s = refl
-accepted-0 R O (next a) s = go (search R O s a)
-  where
-    go : (r : Reading) → number (nextAnswer r) ≡ 0
-    go nothing = refl
-    go (block b l o m) = refl
-    go damaged = refl
-accepted-0 R O audit s = go (O .audit s)
-  where
-    go : (t : Option Tally) → number (auditAnswer t) ≡ 0
-    go none = refl
-    go (some (tally h k l w)) = refl
-
-module _ (m : Map) (c : Call) (s : Shadows) where
-  abbrev does : ℕ → Shadows × Answer
-  does k = unless k s (shadowsAfter (mapRules m) (shadowOps m) c s, shadowAnswer (mapRules m) (shadowOps m) c s)
-
-  pub number-first : number ((call m c s) .1) ≡ firstOf (refusals m c s)
-  unfolding call
-  number-first = unless-number (firstOf (refusals m c s)) s _ (accepted-0 (mapRules m) (shadowOps m) c s)
-
-first-none : (rs : List Refusal) → NoneHolds rs → firstOf rs ≡ 0
-first-none [] h = refl
-first-none (r ∷ rs) h = rw (h .0) (first-none rs (h .1))
-
-first-split : (before after : List Refusal) (k : ℕ) → NoneHolds before → firstOf (before ++ ((k, true) ∷ after)) ≡ k
-first-split [] after k h = refl
-first-split (r ∷ rs) after k h = rw (h .0) (first-split rs after k (h .1))
+use Rattle.demands.specs.Numbers.{isEmpty, isMisplaced, isUnaligned, isTaken, damageMet, blockMissed, rows}
+use Rattle.demands.specs.Demand1.{NoneHolds, SomeRow, isQuestion, RefusedAltersNothing, QuestionsAlterNothing, ByTheTable, AcceptedExactly, LowestWins, ItsRowHolds, SevenWithoutEight, EightOnlyThere, EightThere}
+use Rattle.demands.proofs.Numbers.{accepted-0, by-rows}
 
 pub refused-alters-nothing : RefusedAltersNothing
 unfolding call
 refused-alters-nothing m c s h = go (firstOf (refusals m c s)) h
   where
-    go : (k : ℕ) → number ((does m c s k) .1) ≢ 0 → does m c s k ≡ (s, refusal (number ((does m c s k) .1)))
+    does : ℕ → Shadows × Answer
+    does k = unless k s (shadowsAfter (mapRules m) (shadowOps m) c s, shadowAnswer (mapRules m) (shadowOps m) c s)
+
+    go : (k : ℕ) → number ((does k) .1) ≢ 0 → does k ≡ (s, refusal (number ((does k) .1)))
     go zero h = absurd (h (accepted-0 (mapRules m) (shadowOps m) c s))
     go (suc k) h = refl
 
-pub first-that-holds : FirstThatHolds
-first-that-holds m c s before after k e h = number-first m c s ∙ ap firstOf e ∙ first-split before after k h
+pub questions-alter-nothing : QuestionsAlterNothing
+unfolding call
+questions-alter-nothing m c s q = go c q
+  where
+    same : (k : ℕ) (r : Answer) → (unless k s (s, r)) .0 ≡ s
+    same zero r = refl
+    same (suc k) r = refl
 
--- each number that is tried is above 0, so that 0 says that none holds
-abbrev Named : List Refusal → Type 0
-Named rs = Each (λ (r : Refusal). r .0 ≢ 0) rs
+    go : (c : Call) → isQuestion c ≡ true → (call m c s) .0 ≡ s
+    go clear q = absurd (false≢true q)
+    go (begin w b l) q = absurd (false≢true q)
+    go (free x) q = absurd (false≢true q)
+    go (written a n) q = absurd (false≢true q)
+    go (ask a) q = same (firstOf (refusals m (ask a) s)) _
+    go (valid a n from) q = same (firstOf (refusals m (valid a n from) s)) _
+    go (initialised a n) q = same (firstOf (refusals m (initialised a n) s)) _
+    go (next a) q = same (firstOf (refusals m (next a) s)) _
+    go audit q = same (firstOf (refusals m audit s)) _
 
-none-first : (rs : List Refusal) → Named rs → firstOf rs ≡ 0 → NoneHolds rs
-none-first [] h e = tt
-none-first (r ∷ rs) h e = go (test (r .1)) (none-first rs (h .1))
+pub by-the-table : ByTheTable
+by-the-table = by-rows
+
+-- ---- accepted exactly if no row holds
+
+passed : (before after : List Refusal) → NoneHolds before → firstOf (before ++ after) ≡ firstOf after
+passed [] after h = refl
+passed (r ∷ rs) after h = rw (h .0) (passed rs after (h .1))
+
+first-none : (rs : List Refusal) → NoneHolds rs → firstOf rs ≡ 0
+first-none [] h = refl
+first-none (r ∷ rs) h = rw (h .0) (first-none rs (h .1))
+
+-- each number is above the one before, so that 0 says that none holds
+abbrev Ascending : ℕ → List Refusal → Type 0
+Ascending k [] = Unit {0}
+Ascending k (r ∷ rs) = (k < r .0) × Ascending (r .0) rs
+
+ascending : (m : Map) (c : Call) (s : Shadows) → Ascending 0 (rows m c s)
+ascending m c s =
+    (omega arith, (omega arith, (omega arith, (omega arith, (omega arith, (omega arith, (omega arith, (omega arith, tt))))))))
+
+none-first : (rs : List Refusal) (k : ℕ) → Ascending k rs → firstOf rs ≡ 0 → NoneHolds rs
+none-first [] k h e = tt
+none-first (r ∷ rs) k h e = go (test (r .1)) (none-first rs (r .0) (h .1))
   where
     go : Test (r .1) → (firstOf rs ≡ 0 → NoneHolds rs) → NoneHolds (r ∷ rs)
-    go (is-true t) ih = absurd (h .0 (rw t at e))
+    go (is-true t) ih = absurd (let z : r .0 ≡ 0 = rw t at e in omega (arith, h .0))
     go (is-false t) ih = (t, ih (rw t at e))
-
-named : (m : Map) (c : Call) (s : Shadows) → Named (refusals m c s)
-named m clear s = (omega arith, (omega arith, tt))
-named m (begin w b l) s = (omega arith, (omega arith, (omega arith, (omega arith, (omega arith, (omega arith, tt))))))
-named m (free zero) s = (omega arith, (omega arith, tt))
-named m (free (suc x)) s = (omega arith, (omega arith, (omega arith, (omega arith, (omega arith, tt)))))
-named m (written a n) s = (omega arith, (omega arith, (omega arith, (omega arith, (omega arith, (omega arith, tt))))))
-named m (ask a) s = (omega arith, (omega arith, (omega arith, (omega arith, (omega arith, tt)))))
-named m (valid a n from) s = (omega arith, (omega arith, (omega arith, (omega arith, tt))))
-named m (initialised a n) s = (omega arith, (omega arith, (omega arith, (omega arith, tt))))
-named m (next a) s = (omega arith, (omega arith, (omega arith, (omega arith, tt))))
-named m audit s = (omega arith, (omega arith, (omega arith, tt)))
 
 pub accepted-exactly : AcceptedExactly
 accepted-exactly m c s = (
-  λ h. number-first m c s ∙ first-none (refusals m c s) h,
-  λ e. none-first (refusals m c s) (named m c s) (sym (number-first m c s) ∙ e),
+  λ h. by-rows m c s ∙ first-none (rows m c s) h,
+  λ e. none-first (rows m c s) 0 (ascending m c s) (sym (by-rows m c s) ∙ e),
 )
 
 -- ---- the lowest number wins
 
--- n does not lose against a condition that holds
-abbrev Beats : ℕ → Refusal → Type 0
-Beats n r = r .1 ≡ true → (n ≤ r .0) ⊎ ((n ≡ 8) × (r .0 ≡ 7))
+above : (n k : ℕ) (rs : List Refusal) → n ≤ k → Ascending k rs → Each (λ (r : Refusal). r .1 ≡ true → n ≤ r .0) rs
+above n k [] h a = tt
+above n k (r ∷ rs) h a = (λ e. omega (arith, a .0), above n (r .0) rs (omega (arith, a .0)) (a .1))
 
--- of two numbers that are tried one after the other the first is no higher, or they are 8 and 7
-abbrev Goes : ℕ → ℕ → Type 0
-Goes a b = (a ≤ b) ⊎ ((a ≡ 8) × (b ≡ 7))
-
--- each number goes before each later one
-abbrev InOrder : List Refusal → Type 0
-InOrder [] = Unit {0}
-InOrder (r ∷ rs) = Each (λ (q : Refusal). Goes (r .0) (q .0)) rs × InOrder rs
-
-each-beats : (n : ℕ) (rs : List Refusal) → Each (λ (q : Refusal). Goes n (q .0)) rs → Each (Beats n) rs
-each-beats n [] h = tt
-each-beats n (r ∷ rs) h = (λ e. h .0, each-beats n rs (h .1))
-
-first-beats : (rs : List Refusal) → InOrder rs → Each (Beats (firstOf rs)) rs
-first-beats [] o = tt
-first-beats (r ∷ rs) o = go (test (r .1)) (first-beats rs (o .1))
+lowest : (rs : List Refusal) (k : ℕ) → Ascending k rs → Each (λ (r : Refusal). r .1 ≡ true → firstOf rs ≤ r .0) rs
+lowest [] k a = tt
+lowest (r ∷ rs) k a = go (test (r .1)) (lowest rs (r .0) (a .1))
   where
-    go : Test (r .1) → Each (Beats (firstOf rs)) rs → Each (Beats (firstOf (r ∷ rs))) (r ∷ rs)
-    go (is-true t) ih = rw t (λ e. inl (omega arith), each-beats (r .0) rs (o .0))
+    go : Test (r .1) → Each (λ (q : Refusal). q .1 ≡ true → firstOf rs ≤ q .0) rs
+        → Each (λ (q : Refusal). q .1 ≡ true → firstOf (r ∷ rs) ≤ q .0) (r ∷ rs)
+    go (is-true t) ih = rw t (λ e. omega arith, above (r .0) (r .0) rs (omega arith) (a .1))
     go (is-false t) ih = rw t (λ e. absurd (false≢true e), ih)
 
--- the same as tests, which are computed for each call's list of numbers
-goes : ℕ → ℕ → Bool
-goes a b = leb a b || (eqb a 8 && eqb b 7)
-
-allGo : ℕ → List Refusal → Bool
-allGo n [] = true
-allGo n (q ∷ qs) = goes n (q .0) && allGo n qs
-
-inOrder : List Refusal → Bool
-inOrder [] = true
-inOrder (r ∷ rs) = allGo (r .0) rs && inOrder rs
-
-goes-true : (a b : ℕ) → goes a b ≡ true → Goes a b
-unfolding goes
-goes-true a b e = go (test (leb a b))
-  where
-    go : Test (leb a b) → Goes a b
-    go (is-true t) = inl (leb-true a b t)
-    go (is-false t) =
-        let h : (eqb a 8 && eqb b 7) ≡ true = rw t at e in
-        let k = and-true (eqb a 8) (eqb b 7) h in inr (eqb-true a 8 (k .0), eqb-true b 7 (k .1))
-
-all-go : (n : ℕ) (rs : List Refusal) → allGo n rs ≡ true → Each (λ (q : Refusal). Goes n (q .0)) rs
-unfolding allGo
-all-go n [] e = tt
-all-go n (q ∷ qs) e = let k = and-true (goes n (q .0)) (allGo n qs) e in (goes-true n (q .0) (k .0), all-go n qs (k .1))
-
-in-order : (rs : List Refusal) → inOrder rs ≡ true → InOrder rs
-unfolding inOrder
-in-order [] e = tt
-in-order (r ∷ rs) e = let k = and-true (allGo (r .0) rs) (inOrder rs) e in (all-go (r .0) rs (k .0), in-order rs (k .1))
-
-tried-in-order : (m : Map) (c : Call) (s : Shadows) → inOrder (refusals m c s) ≡ true
-unfolding inOrder allGo goes
-tried-in-order m clear s = refl
-tried-in-order m (begin w b l) s = refl
-tried-in-order m (free zero) s = refl
-tried-in-order m (free (suc x)) s = refl
-tried-in-order m (written a n) s = refl
-tried-in-order m (ask a) s = refl
-tried-in-order m (valid a n from) s = refl
-tried-in-order m (initialised a n) s = refl
-tried-in-order m (next a) s = refl
-tried-in-order m audit s = refl
-
 pub lowest-wins : LowestWins
-lowest-wins m c s = rw (number-first m c s) (first-beats (refusals m c s) (in-order (refusals m c s) (tried-in-order m c s)))
+lowest-wins m c s = rw (by-rows m c s) (lowest (rows m c s) 0 (ascending m c s))
+
+-- the first number is that of a row that holds
+first-holds : (rs : List Refusal) → firstOf rs ≢ 0 → SomeRow (λ (r : Refusal). (r .0 ≡ firstOf rs) × (r .1 ≡ true)) rs
+first-holds [] n = n refl
+first-holds (r ∷ rs) n = go (test (r .1)) (first-holds rs)
+  where
+    go : Test (r .1) → (firstOf rs ≢ 0 → SomeRow (λ (q : Refusal). (q .0 ≡ firstOf rs) × (q .1 ≡ true)) rs)
+        → SomeRow (λ (q : Refusal). (q .0 ≡ firstOf (r ∷ rs)) × (q .1 ≡ true)) (r ∷ rs)
+    go (is-true t) ih = inl (rw t, t)
+    go (is-false t) ih = rw t (inr (ih (rw t at n)))
+
+pub its-row-holds : ItsRowHolds
+its-row-holds m c s n = rw (by-rows m c s) (first-holds (rows m c s) (rw (by-rows m c s) at n))
+
+-- ---- 7 and 8, of the rows
+
+-- the rows before 7
+abbrev early : Map → Call → Shadows → List Refusal
+early m c s =
+    (1, not (goodMap m)) ∷ (2, not (lengthsFit m s)) ∷ (3, isEmpty c) ∷ (4, isMisplaced m c) ∷ (5, isUnaligned m c) ∷ (6, isTaken m c s) ∷ []
+
+-- 7 and 8
+abbrev last : Map → Call → Shadows → List Refusal
+last m c s = (7, blockMissed m c s && not (damageMet m c s)) ∷ (8, damageMet m c s) ∷ []
+
+below : (m : Map) (c : Call) (s : Shadows) (n : ℕ) → 7 ≤ n → Each (λ (r : Refusal). r .0 ≢ n) (early m c s)
+below m c s n h = (omega arith, (omega arith, (omega arith, (omega arith, (omega arith, (omega arith, tt))))))
+
+-- a number that the first rows do not have is one of the later ones
+late : (before after : List Refusal) (n : ℕ) → Each (λ (r : Refusal). r .0 ≢ n) before → firstOf (before ++ after) ≡ n → firstOf after ≡ n
+late [] after n h e = e
+late (r ∷ rs) after n h e = go (test (r .1)) (late rs after n (h .1))
+  where
+    go : Test (r .1) → (firstOf (rs ++ after) ≡ n → firstOf after ≡ n) → firstOf after ≡ n
+    go (is-true t) ih = absurd (h .0 (rw t at e))
+    go (is-false t) ih = ih (rw t at e)
+
+seven : (n d : Bool) → _≡_ {A = ℕ} (cond (n && not d) 7 (cond d 8 0)) 7 → d ≡ false
+seven n false e = refl
+seven true true e = absurd (omega arith)
+seven false true e = absurd (omega arith)
+
+eight : (n d : Bool) → _≡_ {A = ℕ} (cond (n && not d) 7 (cond d 8 0)) 8 → d ≡ true
+eight n true e = refl
+eight true false e = absurd (omega arith)
+eight false false e = absurd (omega arith)
+
+is-eight : (n d : Bool) → d ≡ true → _≡_ {A = ℕ} (cond (n && not d) 7 (cond d 8 0)) 8
+is-eight true true e = refl
+is-eight false true e = refl
+is-eight n false e = absurd (false≢true e)
+
+pub seven-without-eight : SevenWithoutEight
+seven-without-eight m c s e =
+    seven (blockMissed m c s) (damageMet m c s)
+    (late (early m c s) (last m c s) 7 (below m c s 7 (omega arith)) (sym (by-rows m c s) ∙ e))
+
+pub eight-only-there : EightOnlyThere
+eight-only-there m c s e =
+    eight (blockMissed m c s) (damageMet m c s)
+    (late (early m c s) (last m c s) 8 (below m c s 8 (omega arith)) (sym (by-rows m c s) ∙ e))
+
+-- 5 and 6 are record's alone, which has no 8
+no-record : (m : Map) (c : Call) (s : Shadows) → damageMet m c s ≡ true → (isUnaligned m c ≡ false) × (isTaken m c s ≡ false)
+no-record m clear s d = (refl, refl)
+no-record m (begin w b l) s d = absurd (false≢true d)
+no-record m (free x) s d = (refl, refl)
+no-record m (written a n) s d = (refl, refl)
+no-record m (ask a) s d = (refl, refl)
+no-record m (valid a n from) s d = (refl, refl)
+no-record m (initialised a n) s d = (refl, refl)
+no-record m (next a) s d = (refl, refl)
+no-record m audit s d = (refl, refl)
+
+pub eight-there : EightThere
+eight-there m c s ok fit e p d =
+    let n = no-record m c s d in
+    by-rows m c s
+    ∙ passed (early m c s) (last m c s) (rw ok, (rw fit, (e, (p, (n .0, (n .1, tt))))))
+    ∙ is-eight (blockMissed m c s) (damageMet m c s) d

@@ -1,22 +1,28 @@
 -- Demand 3, proved: see specs/Demand3.antt for what each says. Assumes nothing.
-use mathlib.Core.Path.{sym, ap, _∙_}
-use mathlib.Core.List.{[]}
+use mathlib.Core.Path.{_≡_, refl, sym, ap, _∙_}
+use mathlib.Core.List.{List, [], _∷_}
 use Prim.Native.Nat.{_<_}
 use Rattle.plain.specs.Rules.{Placed}
 use Rattle.plain.specs.Areas.{mapRules}
-use Rattle.plain.specs.Call.{number}
+use Rattle.plain.specs.Call.{clear, Answer, number, done}
+use Rattle.plain.specs.ShadowCalls.{shadowStep}
+use Rattle.plain.specs.Run.{run}
 use Rattle.plain.specs.PlainList.{plainStep}
 use Rattle.plain.proofs.SameLaws.{step-same}
 use Rattle.plain.proofs.RunLaws.{keep, low, run-same, run-each}
-use Rattle.shadows.specs.Shadows.{Shadows, shadowOps, image}
+use Rattle.shadows.specs.Shadows.{Shadows, shadowOps, zeroShadows, image}
 use Rattle.shadows.proofs.ShadowLaws.{image-fits, map-sound, shadow-images}
 use Rattle.monitor_base.specs.Calls.{call}
 use Rattle.monitor_base.proofs.CallLaws.{call-step}
-use Rattle.demands.specs.Demand3.{shadowRun, WholeRun, NoDamage, OnEveryImage}
+use Rattle.demands.specs.Demand3.{shadowRun, RunsEachCall, WholeRun, NoDamage, ClearedRun, OnEveryImage, StaysPlaced}
 
 pub on-every-image : OnEveryImage
 on-every-image m ok bs P c =
     call-step m c (image m bs) ok (image-fits m bs) ∙ step-same (mapRules m) (map-sound m ok) (shadowOps m) (image m) (shadow-images m ok) bs P c
+
+pub runs-each-call : RunsEachCall
+unfolding run
+runs-each-call m c cs = (λ s. refl, λ bs. refl)
 
 pub whole-run : WholeRun
 whole-run m ok cs =
@@ -26,3 +32,13 @@ whole-run m ok cs =
 
 pub no-damage : NoDamage
 no-damage m ok cs = rw (whole-run m ok cs) (run-each (image m) (plainStep (mapRules m)) (λ a. number a < 8) (low (mapRules m)) cs [])
+
+pub cleared-run : ClearedRun
+unfolding run shadowStep plainStep
+cleared-run m ok s fit = (zeros, λ cs. rw (zeros, shadow-images m ok .image-nil) (ap (λ (r : List (Answer × Shadows)). (done, zeroShadows m) ∷ r) (whole-run m ok cs)))
+  where
+    zeros : call m clear s ≡ (zeroShadows m, done)
+    zeros = call-step m clear s ok fit
+
+pub stays-placed : StaysPlaced
+stays-placed m ok bs P c = keep (mapRules m) (map-sound m ok) c bs P

@@ -1,6 +1,17 @@
+pub mod Alters
 pub mod Begun
 pub mod Demand1
 pub mod Demand2
 pub mod Demand3
+pub mod Good
+pub mod MapSamples
+pub mod MarkLaws
 pub mod Null
+pub mod Numbers
+pub mod Readings
+pub mod Rest
 pub mod Samples
+pub mod Starts
+pub mod Told
+pub mod Totals
+pub mod Zero

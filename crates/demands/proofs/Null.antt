@@ -1,6 +1,6 @@
 -- Free of address 0, proved: see specs/Null.antt for what each says. Assumes nothing.
-use mathlib.Core.Path.{_≡_, refl}
-use mathlib.Core.Bool.{false}
+use mathlib.Core.Path.{_≡_, refl, sym, ap, _∙_}
+use mathlib.Core.Bool.{false, not}
 use mathlib.Core.List.{List}
 use mathlib.Core.Option.{Option, none, some}
 use Prim.Native.Nat.{ℕ, zero, suc}
@@ -18,13 +18,14 @@ use Rattle.shadows.specs.Shadows.{Shadows}
 use Rattle.shadows.proofs.ShadowLaws.{map-sound}
 use Rattle.monitor_base.specs.Calls.{refusals, call}
 use Rattle.monitor_base.proofs.LocatingLaws.{read-out, null-inside}
+use Rattle.demands.proofs.Numbers.{outside-words, reading-words}
 use Rattle.demands.specs.Null.{NullOutside, NoBlockAtNull, FreeOfNull, FreeOutside}
 
 pub null-outside : NullOutside
-null-outside = null-inside
+null-outside m ok = sym (outside-words m 0) ∙ ap not (null-inside m ok)
 
 pub no-block-at-null : NoBlockAtNull
-no-block-at-null m ok = (unlisted, λ s. read-out m s 0 (zero-outside m ok) .0)
+no-block-at-null m ok = (unlisted, λ s. sym (reading-words m s 0) ∙ read-out m s 0 (zero-outside m ok) .0)
   where
     unlisted : (bs : List Block) → Placed (mapRules m) 0 bs → any (contains 0) bs ≡ false
     unlisted bs P = go (find (contains 0) bs) refl
@@ -34,7 +35,7 @@ no-block-at-null m ok = (unlisted, λ s. read-out m s 0 (zero-outside m ok) .0)
         go (some b) e =
             let f = find-facts (mapRules m) (map-sound m ok) bs 0 (contains 0) b P e in
             let h = contains-true 0 b (f .so) in
-            absurd (not-both _ (map-sound m ok .in-inside (b .base) (len b) 0 (f .fits) (h .0) (h .1)) (null-outside m ok))
+            absurd (not-both _ (map-sound m ok .in-inside (b .base) (len b) 0 (f .fits) (h .0) (h .1)) (null-inside m ok))
 
 pub free-of-null : FreeOfNull
 unfolding call plainStep
@@ -47,4 +48,4 @@ free-of-null m = (λ s. go s (firstOf (refusals m (free 0) s)), λ bs. refl)
 pub free-outside : FreeOutside
 unfolding call
 free-outside m s zero ok fit n i = absurd (n refl)
-free-outside m s (suc a) ok fit n i = rw (ok, fit, i)
+free-outside m s (suc a) ok fit n i = rw (ok, fit, outside-words m (suc a), i)

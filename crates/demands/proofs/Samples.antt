@@ -1,4 +1,4 @@
--- The samples hold: computed over the three tables. Assumes nothing.
+-- The samples hold: computed over the tables of calls, and over those for 8. Assumes nothing.
 use mathlib.Core.Path.{refl}
 use Rattle.number.specs.Little.{byteOf, word}
 use Rattle.number.specs.Bits.{bitOf, withBit, ofBits, ones}
@@ -17,11 +17,20 @@ use Rattle.stack_layout.specs.Code.{shortCode, pieceOf, codeOf, pieceByte, prim
 use Rattle.stack_layout.specs.Image.{primaryOwn, secondaryOwn}
 use Rattle.stack_layout.specs.Reading.{fitted, badPiece, longReading, codeReading, stackReading}
 use Rattle.stack_layout.specs.Walk.{isClear, isByte, lengthAt, stackWalk}
-use Rattle.stack_layout.specs.Ops.{stackVacant, stackStamp, stackErase, stackMark}
+use Rattle.stack_layout.specs.Ops.{stackVacant, stackStamp, stackErase, stackMark, stackMarked}
 use Rattle.shadows.specs.Shadows.{lengthsFit}
 use Rattle.monitor_base.specs.Calls.{call}
-use Rattle.demands.specs.Samples.{sameBytes, runHolds, allHold, table, edges, begunWritten, SamplesHold}
+use Rattle.demands.specs.ByteSamples.{numbers, disagreeing}
+use Rattle.demands.specs.DamageSamples.{readings, callsOnDamage, DamageSamplesHold}
+use Rattle.demands.specs.GivenShadows.{put, allGiven}
+use Rattle.demands.specs.Samples.{sameBytes, runHolds, allHold, table, edges, begunWritten, larger, SamplesHold}
+
+computed : SamplesHold × DamageSamplesHold
+unfolding byteOf word bitOf withBit ofBits ones tab zeros over goodArea apart goodMap segments total layer markRange rangeMarked readAny climb cellByte covers own heapByte heapReading agree matches marksAt heapWalk placeLength heapVacant heapStamp heapErase heapMark heapMarked shortCode pieceOf codeOf pieceByte primaryOf secondaryOf lengthFrom shortLength shortOffset primaryOwn secondaryOwn fitted badPiece longReading codeReading stackReading isClear isByte lengthAt stackWalk stackVacant stackStamp stackErase stackMark stackMarked lengthsFit call sameBytes runHolds allHold table edges begunWritten larger put allGiven readings numbers callsOnDamage disagreeing
+computed = ((refl, refl, refl, refl), (refl, refl, refl, refl))
 
 pub samples-hold : SamplesHold
-unfolding byteOf word bitOf withBit ofBits ones tab zeros over goodArea apart goodMap segments total layer markRange rangeMarked readAny climb cellByte covers own heapByte heapReading agree matches marksAt heapWalk placeLength heapVacant heapStamp heapErase heapMark heapMarked shortCode pieceOf codeOf pieceByte primaryOf secondaryOf lengthFrom shortLength shortOffset primaryOwn secondaryOwn fitted badPiece longReading codeReading stackReading isClear isByte lengthAt stackWalk stackVacant stackStamp stackErase stackMark lengthsFit call sameBytes runHolds allHold table edges begunWritten
-samples-hold = (refl, refl, refl)
+samples-hold = computed .0
+
+pub damage-samples-hold : DamageSamplesHold
+damage-samples-hold = computed .1

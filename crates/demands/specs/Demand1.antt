@@ -1,40 +1,80 @@
--- Demand 1, what it says of every call on every input: accepted exactly if none of its conditions holds, else refused by the first number
--- whose condition holds, with zero fields and no byte altered. Each statement is proved in proofs/Demand1.antt. That the code does what
--- `call` says, stays in the lent memory and ends, is the contract of each function of `monitor`. Assumes nothing.
+-- Demand 1, what it says of every call on every input, any map, any lengths, any bytes: accepted exactly if no row of the table of refusals
+-- holds, else refused by the lowest number whose row holds, with zero fields and no byte altered. Each statement is proved in
+-- proofs/Demand1.antt. That the code does what `call` says, stays in the lent memory and ends, is the contract of each function of `monitor`.
+-- Assumes nothing.
 use mathlib.Core.Path.{_≡_}
 use mathlib.Core.Logic.{_≢_, _⊎_}
-use mathlib.Core.Bool.{true, false}
-use mathlib.Core.List.{List, _∷_, _++_}
+use mathlib.Core.Bool.{Bool, true, false}
+use mathlib.Core.List.{List, [], _∷_}
 use Prim.Native.Nat.{ℕ, _≤_}
 use Rattle.number.specs.Parts.{Each}
 use Rattle.map.specs.declared.Map.{Map}
-use Rattle.plain.specs.Call.{Call, number, refusal, Refusal}
-use Rattle.shadows.specs.Shadows.{Shadows}
-use Rattle.monitor_base.specs.Calls.{refusals, call}
+use Rattle.map.specs.Map.{goodMap}
+use Rattle.plain.specs.Call.{Call, clear, begin, free, written, ask, valid, initialised, next, audit, answer, number, Refusal, firstOf}
+use Rattle.shadows.specs.Shadows.{Shadows, lengthsFit}
+use Rattle.monitor_base.specs.Calls.{call}
+use Rattle.demands.specs.Numbers.{isEmpty, isMisplaced, damageMet, rows}
+
+-- the number of a call
+abbrev pub numberOf : Map → Call → Shadows → ℕ
+numberOf m c s = number ((call m c s) .1)
 
 -- none of the conditions holds
 abbrev pub NoneHolds : List Refusal → Type 0
 NoneHolds rs = Each (λ (r : Refusal). r .1 ≡ false) rs
 
--- a refused call leaves every shadow byte and has four zero fields
+-- "A refusal returns the number with all other fields zero and alters no shadow byte"
 abbrev pub RefusedAltersNothing : Type 0
-RefusedAltersNothing =
-    (m : Map) (c : Call) (s : Shadows) → number ((call m c s) .1) ≢ 0 → call m c s ≡ (s, refusal (number ((call m c s) .1)))
+RefusedAltersNothing = (m : Map) (c : Call) (s : Shadows) → numberOf m c s ≢ 0 → call m c s ≡ (s, answer (numberOf m c s) 0 0 0 0)
 
--- the number is the first of the conditions, in the order in which they are tried, that holds
-abbrev pub FirstThatHolds : Type 0
-FirstThatHolds =
-    (m : Map) (c : Call) (s : Shadows) (before after : List Refusal) (k : ℕ) → refusals m c s ≡ before ++ ((k, true) ∷ after) → NoneHolds before
-    → number ((call m c s) .1) ≡ k
+-- ask, valid, initialised, next and audit alter no shadow byte, accepted or refused
+abbrev pub isQuestion : Call → Bool
+isQuestion clear = false
+isQuestion (begin w b l) = false
+isQuestion (free x) = false
+isQuestion (written a n) = false
+isQuestion (ask a) = true
+isQuestion (valid a n from) = true
+isQuestion (initialised a n) = true
+isQuestion (next a) = true
+isQuestion audit = true
 
--- a call is accepted, with number 0, exactly if none of its conditions holds
+abbrev pub QuestionsAlterNothing : Type 0
+QuestionsAlterNothing = (m : Map) (c : Call) (s : Shadows) → isQuestion c ≡ true → (call m c s) .0 ≡ s
+
+-- the number is that of the first row of the table that holds, and 0 where none does
+abbrev pub ByTheTable : Type 0
+ByTheTable = (m : Map) (c : Call) (s : Shadows) → numberOf m c s ≡ firstOf (rows m c s)
+
+-- "An accepted call gives 0 as its number": exactly if no row holds
 abbrev pub AcceptedExactly : Type 0
-AcceptedExactly =
-    (m : Map) (c : Call) (s : Shadows)
-    → (NoneHolds (refusals m c s) → number ((call m c s) .1) ≡ 0) × (number ((call m c s) .1) ≡ 0 → NoneHolds (refusals m c s))
+AcceptedExactly = (m : Map) (c : Call) (s : Shadows) → (NoneHolds (rows m c s) → numberOf m c s ≡ 0) × (numberOf m c s ≡ 0 → NoneHolds (rows m c s))
 
--- the lowest number wins, but that 8 goes before 7: of every condition that holds, the number is at most that one's, or it is 8 and that one 7
+-- "The lowest number wins": of every row that holds, the number is at most that row's
 abbrev pub LowestWins : Type 0
-LowestWins =
-    (m : Map) (c : Call) (s : Shadows)
-    → Each (λ (r : Refusal). r .1 ≡ true → (number ((call m c s) .1) ≤ r .0) ⊎ ((number ((call m c s) .1) ≡ 8) × (r .0 ≡ 7))) (refusals m c s)
+LowestWins = (m : Map) (c : Call) (s : Shadows) → Each (λ (r : Refusal). r .1 ≡ true → numberOf m c s ≤ r .0) (rows m c s)
+
+-- one of the rows is so
+abbrev pub SomeRow : (Refusal → Type 0) → List Refusal → Type 0
+SomeRow P [] = ⊥
+SomeRow P (r ∷ rs) = P r ⊎ SomeRow P rs
+
+-- "Returned | When": a number other than 0 is that of a row that holds
+abbrev pub ItsRowHolds : Type 0
+ItsRowHolds =
+    (m : Map) (c : Call) (s : Shadows) → numberOf m c s ≢ 0
+    → SomeRow (λ (r : Refusal). (r .0 ≡ numberOf m c s) × (r .1 ≡ true)) (rows m c s)
+
+-- "7 never where 8 holds": where the number is 7, 8's condition is false
+abbrev pub SevenWithoutEight : Type 0
+SevenWithoutEight = (m : Map) (c : Call) (s : Shadows) → numberOf m c s ≡ 7 → damageMet m c s ≡ false
+
+-- "Damage is reported by number 8": 8 only where its condition holds
+abbrev pub EightOnlyThere : Type 0
+EightOnlyThere = (m : Map) (c : Call) (s : Shadows) → numberOf m c s ≡ 8 → damageMet m c s ≡ true
+
+-- and always there, unless 1, 2, 3 or 4 comes first (5 and 6 are record's alone, which has no 8)
+abbrev pub EightThere : Type 0
+EightThere =
+    (m : Map) (c : Call) (s : Shadows) → goodMap m ≡ true → lengthsFit m s ≡ true → isEmpty c ≡ false → isMisplaced m c ≡ false
+    → damageMet m c s ≡ true → numberOf m c s ≡ 8

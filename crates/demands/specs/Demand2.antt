@@ -1,31 +1,69 @@
--- Demand 2, what it says: readings look at nine bytes at most, a list of blocks has one image, an audit accepts exactly the images, and
--- the list read back is the list it was made of. Each statement is proved in proofs/Demand2.antt. That readings follow the encodings for all
--- bytes is the contract of `heap::read` and `stack::read`; that every call on every image answers as the list does is `OnEveryImage` of
--- Demand3.antt. Assumes nothing.
+-- Demand 2, what it says: readings follow the encodings for all bytes, on nine bytes at most; each placeable list of blocks has one image; an
+-- audit accepts exactly the images, with the list's totals; and the list read back is the list it was made of. All of it is said of calls.
+-- Each statement is proved in proofs/Demand2.antt. That every call on every image answers as the list does is `OnEveryImage` of Demand3.antt.
+-- Assumes nothing.
 use mathlib.Core.Path.{_≡_}
-use mathlib.Core.Bool.{true}
+use mathlib.Core.Logic.{_≢_, _⊎_}
+use mathlib.Core.Bool.{true, cond}
 use mathlib.Core.List.{List}
-use mathlib.Core.Option.{some}
-use Prim.Native.Nat.{ℕ, _≤_}
+use Prim.Native.Nat.{ℕ, zero, suc, _+_, _*_, _/_, _≤_, _<_}
 use lib.ListN.{length}
-use Rattle.number.specs.Parts.{Each}
+use Rattle.number.specs.Parts.{at, Each}
+use Rattle.number.specs.Little.{Bytes}
 use Rattle.map.specs.declared.Map.{Map}
 use Rattle.map.specs.Map.{goodMap}
 use Rattle.plain.specs.Block.{Block}
+use Rattle.plain.specs.Blocks.{count, live, written}
 use Rattle.plain.specs.Rules.{Placed}
 use Rattle.plain.specs.Areas.{mapRules}
-use Rattle.plain.specs.Reading.{Tally, tallyOf}
-use Rattle.plain.specs.Ops.{readAny}
-use Rattle.plain.specs.ReadBack.{readBack}
-use Rattle.shadows.specs.Shadows.{Shadows, lengthsFit, shadowOps, image, byteAt, looks}
+use Rattle.plain.specs.Reading.{Reading, nothing, block, damaged}
+use Rattle.plain.specs.ReadBack.{collect}
+use Rattle.plain.specs.Call.{ask, audit, Answer, answer, number}
+use Rattle.shadows.specs.Shadows.{Shadows, lengthsFit, image, byteAt, looks}
+use Rattle.monitor_base.specs.Calls.{call}
+use Rattle.demands.specs.Addresses.{inHeap, inStack, outside, endOfAreas, readingAt}
 
--- a reading looks at nine shadow bytes at most: shadows that agree on the bytes it looks at read the same, and look at the same bytes
+-- ---- readings
+
+-- what ask answers of a reading: 7 "no block there", 8 "a reading is damaged", else "base, length, offset, written as 1 or 0"
+abbrev pub asked : Reading → Answer
+asked nothing = answer 7 0 0 0 0
+asked (block b l o w) = answer 0 b l o w
+asked damaged = answer 8 0 0 0 0
+
+-- readings follow the encodings, for all bytes: under a good map and right lengths ask answers, at every address, 4 outside both areas, and
+-- inside what its area's layout reads there; it alters no byte
+abbrev pub AskReads : Type 0
+AskReads =
+    (m : Map) (s : Shadows) → goodMap m ≡ true → lengthsFit m s ≡ true → (a : ℕ)
+    → call m (ask a) s ≡ (s, cond (outside m a) (answer 4 0 0 0 0) (asked (readingAt m s a)))
+
+-- "Nine bytes are read": a reading looks at nine shadow bytes at most. Shadows that agree on the bytes it looks at read the same, and look at
+-- the same bytes; and if both have the right lengths, or neither, ask answers the same
 abbrev pub NineBytes : Type 0
 NineBytes =
     (m : Map) (s : Shadows) (a : ℕ)
     → (length (looks m s a) ≤ 9)
     × ((t : Shadows) → Each (λ q. byteAt t q ≡ byteAt s q) (looks m s a)
-    → (readAny (mapRules m) (shadowOps m) t a ≡ readAny (mapRules m) (shadowOps m) s a) × (looks m t a ≡ looks m s a))
+    → (readingAt m t a ≡ readingAt m s a)
+    × (looks m t a ≡ looks m s a)
+    × (lengthsFit m t ≡ lengthsFit m s → (call m (ask a) t) .1 ≡ (call m (ask a) s) .1))
+
+-- ---- images
+
+-- an image has the right lengths, and each of its bytes is below 256
+abbrev pub ImageShape : Type 0
+ImageShape =
+    (m : Map) (bs : List Block)
+    → (lengthsFit m (image m bs) ≡ true) × Bytes ((image m bs) .0) × Bytes ((image m bs) .1 .0) × Bytes ((image m bs) .1 .1)
+
+-- what the layouts set to zero and no reading looks at, in the image of any list. Heap segment, "Bytes 5 to 7 are zero" where its number (bytes 0 to 3)
+-- is not. Stack, "Secondary bytes zero" where the code is 0 to 36, and "Further ones are zero" where a byte is 8 or more places into its piece
+abbrev pub RestZero : Type 0
+RestZero =
+    (m : Map) (bs : List Block)
+    → ((k i j : ℕ) → i < 4 → 5 ≤ j → j < 8 → at ((image m bs) .0) (k * 8 + i) ≢ 0 → at ((image m bs) .0) (k * 8 + j) ≡ 0)
+    × ((q : ℕ) → (at ((image m bs) .1 .0) q / 4 ≤ 36) ⊎ (48 + 8 ≤ at ((image m bs) .1 .0) q / 4) → at ((image m bs) .1 .1) q ≡ 0)
 
 -- a list has one image, since `image` is a function; and an image has one list: two placed lists (placeable blocks in address order) with
 -- the same image are the same list
@@ -33,24 +71,49 @@ abbrev pub OneImage : Type 0
 OneImage =
     (m : Map) → goodMap m ≡ true → (bs cs : List Block) → Placed (mapRules m) 0 bs → Placed (mapRules m) 0 cs → image m bs ≡ image m cs → bs ≡ cs
 
--- the image of a placed list has the right lengths and is accepted, with the list's totals
+-- ---- audit
+
+-- "number of heap blocks, number of stack blocks, sum of all lengths, number of written bytes"
+abbrev pub totalsOf : Map → List Block → Answer
+totalsOf m bs = answer 0 (count (inHeap m) bs) (count (inStack m) bs) (live bs) (written bs)
+
+-- audit accepts the image of every placed list, leaves it, and answers the list's totals
 abbrev pub AuditAccepts : Type 0
 AuditAccepts =
-    (m : Map) → goodMap m ≡ true → (bs : List Block) → Placed (mapRules m) 0 bs
-    → (lengthsFit m (image m bs) ≡ true) × (shadowOps m .audit (image m bs) ≡ some (tallyOf (mapRules m) bs))
+    (m : Map) → goodMap m ≡ true → (bs : List Block) → Placed (mapRules m) 0 bs → call m audit (image m bs) ≡ (image m bs, totalsOf m bs)
 
--- shadows of the right lengths that an audit accepts are the image of a placed list, and the totals are that list's
+-- and nothing else, for any map and any shadows: where it answers 0 the map is good, the shadows are the image of a placed list, and the
+-- answer is that list's totals
 abbrev pub AuditOnly : Type 0
 AuditOnly =
-    (m : Map) → goodMap m ≡ true → (s : Shadows) → lengthsFit m s ≡ true → (t : Tally) → shadowOps m .audit s ≡ some t
-    → (bs : List Block) × Placed (mapRules m) 0 bs × (s ≡ image m bs) × (t ≡ tallyOf (mapRules m) bs)
+    (m : Map) (s : Shadows) → number ((call m audit s) .1) ≡ 0
+    → (goodMap m ≡ true)
+    × ((bs : List Block) × Placed (mapRules m) 0 bs × (s ≡ image m bs) × (call m audit s ≡ (s, totalsOf m bs)))
 
--- the list that the readings of an image tell is the list it was made of
+-- 8, "for audit, no image": under a good map and right lengths, shadows that are the image of no placed list get 8
+abbrev pub AuditRefuses : Type 0
+AuditRefuses =
+    (m : Map) (s : Shadows) → goodMap m ≡ true → lengthsFit m s ≡ true
+    → ((bs : List Block) → Placed (mapRules m) 0 bs → s ≡ image m bs → ⊥) → call m audit s ≡ (s, answer 8 0 0 0 0)
+
+-- ---- the list read back
+
+-- what an answer of ask tells of its address: a block, where it is accepted
+abbrev pub blockTold : Answer → Reading
+blockTold (answer zero b l o w) = block b l o w
+blockTold (answer (suc k) b l o w) = nothing
+
+-- the list that ask tells, called for every address below the end of the areas: an answer with offset 0 tells base and length of a block, and
+-- the answers for its bytes tell which of them are written
+abbrev pub listTold : Map → Shadows → List Block
+listTold m s = collect (λ a. blockTold ((call m (ask a) s) .1)) 0 (endOfAreas m)
+
+-- the list read back is the list the image was made of
 abbrev pub ReadBack : Type 0
-ReadBack = (m : Map) → goodMap m ≡ true → (bs : List Block) → Placed (mapRules m) 0 bs → readBack (mapRules m) (shadowOps m) (image m bs) ≡ bs
+ReadBack = (m : Map) → goodMap m ≡ true → (bs : List Block) → Placed (mapRules m) 0 bs → listTold m (image m bs) ≡ bs
 
--- the list that accepted shadows tell is placed, and they are its image
+-- for any map and any shadows: where audit answers 0 the list read back is placed, the shadows are its image, and the answer is its totals
 abbrev pub MadeOf : Type 0
 MadeOf =
-    (m : Map) → goodMap m ≡ true → (s : Shadows) → lengthsFit m s ≡ true → (t : Tally) → shadowOps m .audit s ≡ some t
-    → Placed (mapRules m) 0 (readBack (mapRules m) (shadowOps m) s) × (image m (readBack (mapRules m) (shadowOps m) s) ≡ s)
+    (m : Map) (s : Shadows) → number ((call m audit s) .1) ≡ 0
+    → Placed (mapRules m) 0 (listTold m s) × (image m (listTold m s) ≡ s) × (call m audit s ≡ (s, totalsOf m (listTold m s)))

@@ -1,6 +1,15 @@
+pub mod Addresses
+pub mod Alters
 pub mod Begun
+pub mod ByteSamples
+pub mod DamageSamples
 pub mod Demand1
 pub mod Demand2
 pub mod Demand3
+pub mod GivenShadows
+pub mod Good
+pub mod MapSamples
 pub mod Null
+pub mod Numbers
 pub mod Samples
+pub mod Told

@@ -1,5 +1,5 @@
 -- Tables of samples: those that document 01 marks, with its worked example; the edges of what map and arguments decide; blocks that begin
--- written. Assumes nothing.
+-- written; and, under a larger map, numbers above 255. Assumes nothing.
 use mathlib.Core.Path.{_≡_}
 use mathlib.Core.Bool.{Bool, true, false, _&&_}
 use mathlib.Core.List.{List, [], _∷_, _++_}
@@ -37,18 +37,18 @@ bytesHold x s =
     && sameBytes (s .1 .1) (x .secondary .0) (x .secondary .1)
 
 -- the calls give these answers, as many as there are calls, and leave these bytes
-unfoldable pub runHolds : Sample → Shadows → List Call → List Answer → Bool
-runHolds x s [] [] = bytesHold x s
-runHolds x s [] (r ∷ rs) = false
-runHolds x s (c ∷ cs) [] = false
-runHolds x s (c ∷ cs) (r ∷ rs) = let after = call sampleMap c s in sameAnswer (after .1) r && runHolds x (after .0) cs rs
+unfoldable pub runHolds : Map → Sample → Shadows → List Call → List Answer → Bool
+runHolds m x s [] [] = bytesHold x s
+runHolds m x s [] (r ∷ rs) = false
+runHolds m x s (c ∷ cs) [] = false
+runHolds m x s (c ∷ cs) (r ∷ rs) = let after = call m c s in sameAnswer (after .1) r && runHolds m x (after .0) cs rs
 
-abbrev pub sampleHolds : Sample → Bool
-sampleHolds x = runHolds x (zeroShadows sampleMap) (x .calls) (x .answers)
+abbrev pub sampleHolds : Map → Sample → Bool
+sampleHolds m x = runHolds m x (zeroShadows m) (x .calls) (x .answers)
 
-unfoldable pub allHold : List Sample → Bool
-allHold [] = true
-allHold (x ∷ xs) = sampleHolds x && allHold xs
+unfoldable pub allHold : Map → List Sample → Bool
+allHold m [] = true
+allHold m (x ∷ xs) = sampleHolds m x && allHold m xs
 
 -- ---- the table
 
@@ -118,8 +118,9 @@ table =
     }
     ∷ []
 
--- ---- what follows from arguments and map, at the edges: shared by the plain list and the shadows, and so decided by reading, by these, and
--- for free by `Null.FreeOfNull` and `FreeOutside`
+-- ---- what follows from arguments and map, at the edges. The plain list and the shadows share one definition of 3, 4 and 5 (`byRules`), so that
+-- `Demand3.WholeRun` does not decide them; `Demand1.ByTheTable` does, for every input, by a table of its own. Here are the numbers themselves, and
+-- what no table of numbers says: fields, and the bytes that free of address 0 leaves
 
 unfoldable pub edges : List Sample
 edges =
@@ -221,6 +222,52 @@ begunWritten =
     }
     ∷ []
 
+-- ---- numbers above 255, under a map whose areas have 320 bytes each (an audit of these is more than the checker computes)
+
+abbrev pub largerMap : Map
+largerMap = record { «heap_start» = 4096; «heap_size» = 320; «stack_start» = 8192; «stack_size» = 320 }
+
+-- a heap block of 300, 9 of its bytes from offset 256 on written, and the heap shadow from a position on
+abbrev longHeap : (position : ℕ) → List ℕ → Sample
+longHeap q h =
+    record { calls = record-block 4104 300 ∷ written 4360 9 ∷ []; answers = done ∷ done ∷ []; heap = (q, h); primary = (0, []); secondary = (0, []) }
+
+-- a stack block of 300, and the secondary from a position on
+abbrev longStack : (position : ℕ) → List ℕ → Sample
+longStack q x =
+    record { calls = record-block 8192 300 ∷ []; answers = done ∷ []; heap = (0, []); primary = (0, []); secondary = (q, x) }
+
+unfoldable pub larger : List Sample
+larger =
+    -- the header's length; the segments at offsets 248, 256 and 264; the last one, at 296
+    longHeap 0 (0 ∷ 0 ∷ 0 ∷ 0 ∷ 44 ∷ 1 ∷ 0 ∷ 0 ∷ [])
+    ∷ longHeap 256 ((249 ∷ 0 ∷ 0 ∷ 0 ∷ 0 ∷ 0 ∷ 0 ∷ 0 ∷ []) ++ (1 ∷ 1 ∷ 0 ∷ 0 ∷ 255 ∷ 0 ∷ 0 ∷ 0 ∷ []) ++ (9 ∷ 1 ∷ 0 ∷ 0 ∷ 1 ∷ 0 ∷ 0 ∷ 0 ∷ []))
+    ∷ longHeap 304 ((41 ∷ 1 ∷ 0 ∷ 0 ∷ 0 ∷ 0 ∷ 0 ∷ 0 ∷ []) ++ zeros8)
+    -- the pieces at offsets 0, 248 and 256; the last one, at 288, of 12 bytes
+    ∷ longStack 0 (44 ∷ 1 ∷ 0 ∷ 0 ∷ 0 ∷ 0 ∷ 0 ∷ 0 ∷ [])
+    ∷ longStack 248 ((44 ∷ 1 ∷ 0 ∷ 0 ∷ 248 ∷ 0 ∷ 0 ∷ 0 ∷ []) ++ (44 ∷ 1 ∷ 0 ∷ 0 ∷ 0 ∷ 1 ∷ 0 ∷ 0 ∷ []))
+    ∷ longStack 288 ((44 ∷ 1 ∷ 0 ∷ 0 ∷ 32 ∷ 1 ∷ 0 ∷ 0 ∷ []) ++ zeros8)
+    -- both read again, to their last bytes and past them
+    ∷ record {
+      calls = record-block 4104 300 ∷ written 4360 9 ∷ ask 4360 ∷ ask 4403 ∷ ask 4404 ∷ valid 4359 45 4104 ∷ valid 4359 46 4104 ∷ next 4096 ∷ free 4104 ∷ [];
+      answers =
+          done ∷ done ∷ answer 0 4104 300 256 1 ∷ answer 0 4104 300 299 0 ∷ refusal 7 ∷ answer 0 1 0 0 0 ∷ answer 0 0 0 0 0 ∷ answer 0 4104 300 0 0 ∷ done
+          ∷ [];
+      heap = (296, zeros8 ++ zeros8);
+      primary = (0, []);
+      secondary = (0, []);
+    }
+    ∷ record {
+      calls = record-block 8192 300 ∷ ask 8448 ∷ ask 8491 ∷ ask 8492 ∷ valid 8447 45 8192 ∷ valid 8447 46 8192 ∷ next 8190 ∷ [];
+      answers =
+          done ∷ answer 0 8192 300 256 0 ∷ answer 0 8192 300 299 0 ∷ refusal 7 ∷ answer 0 1 0 0 0 ∷ answer 0 0 0 0 0 ∷ answer 0 8192 300 0 0 ∷ [];
+      heap = (0, []);
+      primary = (288, 192 ∷ 196 ∷ 200 ∷ 204 ∷ 208 ∷ 212 ∷ 216 ∷ 220 ∷ 224 ∷ 228 ∷ 232 ∷ 236 ∷ 0 ∷ []);
+      secondary = (0, []);
+    }
+    ∷ []
+
 -- every sample holds
 abbrev pub SamplesHold : Type 0
-SamplesHold = (allHold table ≡ true) × (allHold edges ≡ true) × (allHold begunWritten ≡ true)
+SamplesHold =
+    (allHold sampleMap table ≡ true) × (allHold sampleMap edges ≡ true) × (allHold sampleMap begunWritten ≡ true) × (allHold largerMap larger ≡ true)

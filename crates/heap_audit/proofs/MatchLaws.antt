@@ -12,7 +12,7 @@ use Rattle.number.proofs.LittleLaws.{word-of}
 use Rattle.heap_layout.specs.Image.{Cell, cellByte}
 use Rattle.heap_layout.specs.Walk.{matches}
 use Rattle.heap_layout.proofs.WalkLaws.{matches-shows, shows-matches}
-use Rattle.heap.specs.Pair.{pairByte}
+use Rattle.heap_laws.specs.Pair.{pairByte}
 
 -- the bytes of the number that stands there
 byte-word : (f : ℕ → ℕ) (w p i : ℕ) → ((q : ℕ) → f q < 256) → i < w → byteOf (word f p w) i ≡ f (p + i)

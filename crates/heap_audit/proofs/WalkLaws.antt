@@ -19,8 +19,8 @@ use Rattle.plain.specs.Found.{bad, goesOn, begins}
 use Rattle.heap_layout.specs.Image.{free, header, segment}
 use Rattle.heap_layout.specs.Walk.{matches, marksAt, heapWalk}
 use Rattle.heap_layout.proofs.WalkLaws.{length-marks}
-use Rattle.heap.proofs.MarkLaws.{bit-at}
-use Rattle.heap.proofs.PairLaws.{cell-free, cell-header, cell-segment}
+use Rattle.heap_laws.proofs.MarkLaws.{bit-at}
+use Rattle.heap_laws.proofs.PairLaws.{cell-free, cell-header, cell-segment}
 use Rattle.heap_audit.proofs.MatchLaws.{pair-matches}
 
 -- ---- the written bits of a segment

@@ -65,7 +65,7 @@ fn inside(heap: &[u8], s: usize, w: Walk, low: u32, high: u32) -> Moved
     }
     let blocks = w.blocks;
     let live = w.live + bytes;
-    let written = w.written + number::ones(heap[s * 8 + 4]);
+    let written = w.written + number_bits::ones(heap[s * 8 + 4]);
     if len <= d + 8 {
         return Moved::On(Walk {
             len: 0,
@@ -89,8 +89,8 @@ pub fn turn(heap: &[u8], s: usize, w: Walk) -> Moved
     requires { ⌜ (s < length (now heap) / 8) × (length (now heap) ≤ 131072) × Kept (length (now heap)) s w ⌝ }
     ensures { λ r. ⌜ Turned (now (heap .entry)) s w r ⌝ }
 {
-    let low = number::number_at(heap, s * 8);
-    let high = number::number_at(heap, s * 8 + 4);
+    let low = number_words::number_at(heap, s * 8);
+    let high = number_words::number_at(heap, s * 8 + 4);
     if w.len == 0 {
         outside(heap, s, w, low, high)
     } else {

@@ -10,3 +10,5 @@ pub mod WalkLaws
 pub mod WalkSound
 pub mod WalkComplete
 pub mod HeapImages
+pub mod ByteLaws
+pub mod StampedLaws

@@ -139,7 +139,7 @@ module _ {W G size : ℕ} (z : Sizes W G size) where
   -- ---- the image
 
   module _ (bs : List Block) (P : Placed R 0 bs) (p : ℕ) (b : Block) (e : find (contains p) bs ≡ some b) where
-    mark-byte : (q : ℕ) → heapByte W G (markOne p bs) q
+    pub mark-byte : (q : ℕ) → heapByte W G (markOne p bs) q
         ≡ cond (eqb q (bitsPlace W G p)) (withBit (heapByte W G bs q) (p % G % 8)) (heapByte W G bs q)
     unfolding heapByte covers
     mark-byte q =

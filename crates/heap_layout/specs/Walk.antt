@@ -29,10 +29,9 @@ module _ (W G size : ℕ) (f : ℕ → ℕ) where
   heapWalk (suc n) s L d =
       let H = word f (s * G + W) W in
       let ms = marksAt s (min G (L - d)) in
-      let idle = heapWalk n (suc s) 0 0 in
-      let opens = heapWalk n (suc s) H 0 in
-      let goes = heapWalk n (suc s) (cond (leb L (d + G)) 0 L) (d + G) in
       cond (eqb L 0)
-      (cond (matches s free) idle
-      (cond (leb 1 H && leb (suc s * G + H) size && matches s (header H)) (begins (suc s * G) opens) bad))
-      (cond (matches s (segment d ms)) (goesOn ms goes) bad)
+      -- no block goes on: the segment is free, or the header of a block that fits
+      (cond (matches s free) (heapWalk n (suc s) 0 0)
+      (cond (leb 1 H && leb (suc s * G + H) size && matches s (header H)) (begins (suc s * G) (heapWalk n (suc s) H 0)) bad))
+      -- a block goes on: the segment is its next one
+      (cond (matches s (segment d ms)) (goesOn ms (heapWalk n (suc s) (cond (leb L (d + G)) 0 L) (d + G))) bad)

@@ -8,8 +8,9 @@ use borrow.Author.Tests.{leb-true}
 use Rattle.number.specs.Parts.{at}
 use Rattle.number.proofs.TestLaws.{Test, is-true, is-false, test}
 use Rattle.map.specs.declared.Map.{Map}
+use Rattle.map.specs.declared.Area.{Area}
 use Rattle.map.specs.declared.Area.the-variants.{Heap, Stack, Outside}
-use Rattle.map.specs.Map.{goodMap, within, areaOf}
+use Rattle.map.specs.Map.{goodMap, within, areaOf, startOf, endOf}
 use Rattle.map.proofs.MapLaws.{Good, good-true, within-true, zero-outside}
 use Rattle.plain.specs.Areas.{mapRules}
 use Rattle.plain.specs.Reading.{Reading, nothing, block, damaged}
@@ -77,6 +78,15 @@ module _ (m : Map) (s : Shadows) (ok : goodMap m ≡ true) (fit : lengthsFit m s
   pub ends : (m .«heap_start» + m .«heap_size» ≤ 4294967295) × (m .«stack_start» + m .«stack_size» ≤ 4294967295)
   ends = (good .heapEnd, good .stackEnd)
 
+  -- the position of an area's end is the length of its shadows
+  pub heap-end : endOf m Heap - startOf m Heap ≡ length (s .0)
+  unfolding startOf endOf
+  heap-end = omega (arith, lengths .0)
+
+  pub stack-end : endOf m Stack - startOf m Stack ≡ length (s .1 .0)
+  unfolding startOf endOf
+  stack-end = omega (arith, lengths .1 .0)
+
   -- an address of the heap
   pub heap-position : (a : ℕ) → areaOf m a ≡ Heap → (m .«heap_start» ≤ a) × (a - m .«heap_start» < length (s .0))
   heap-position a e =
@@ -106,6 +116,13 @@ module _ (m : Map) (s : Shadows) (ok : goodMap m ≡ true) (fit : lengthsFit m s
       × (mapRules m .inside a ≡ true)
   unfolding readAny
   read-stack a p e q = let h = area-stack m a e in rw (lengths .1 .0, h .0, h .1, q) (refl, refl)
+
+-- an area starts at or below its end
+pub start-end : (m : Map) (k : Area) → startOf m k ≤ endOf m k
+unfolding startOf endOf
+start-end m Heap = omega arith
+start-end m Stack = omega arith
+start-end m Outside = omega arith
 
 -- an address of neither area
 pub out-inside : (m : Map) (a : ℕ) → areaOf m a ≡ Outside → mapRules m .inside a ≡ false

@@ -6,7 +6,11 @@ use Rattle.plain.specs.Call.{answer}
 use Rattle.shadows.specs.Shadows.{Shadows}
 use Rattle.monitor_base.specs.declared.Answer.{Answer}
 use Rattle.monitor_base.specs.declared.Call.{Call}
-use Rattle.monitor_base.specs.declared.Call.the-variants.{Clear, Record, RecordWritten, Free, Written, Ask, Valid, Initialised, Next, Audit}
+use Rattle.monitor_base.specs.declared.Call.the-variants as case
+use Rattle.monitor_base.specs.declared.Query.{Query}
+use Rattle.monitor_base.specs.declared.Query.the-variants.{Ask, Valid, Initialised, Next, Audit}
+use Rattle.monitor_base.specs.declared.Update.{Update}
+use Rattle.monitor_base.specs.declared.Update.the-variants.{Clear, Record, RecordWritten, Free, Written}
 
 -- the number and the four fields
 abbrev pub answerOf : Answer → plain.Answer
@@ -16,14 +20,20 @@ answerOf r = answer (r .number) (r .first) (r .second) (r .third) (r .fourth)
 abbrev pub outcome : Answer → (heap primary secondary : List ℕ) → Shadows × plain.Answer
 outcome r h p s = ((h, (p, s)), answerOf r)
 
+abbrev pub queryOf : Query → plain.Call
+queryOf (Ask a) = plain.ask (a .0)
+queryOf (Valid a n from) = plain.valid (a .0) n (from .0)
+queryOf (Initialised a n) = plain.initialised (a .0) n
+queryOf (Next a) = plain.next (a .0)
+queryOf Audit = plain.audit
+
+abbrev pub updateOf : Update → plain.Call
+updateOf Clear = plain.clear
+updateOf (Record base length) = plain.record-block (base .0) length
+updateOf (RecordWritten base length) = plain.record-written (base .0) length
+updateOf (Free base) = plain.free (base .0)
+updateOf (Written a n) = plain.written (a .0) n
+
 abbrev pub callOf : Call → plain.Call
-callOf Clear = plain.clear
-callOf (Record base length) = plain.record-block (base .0) length
-callOf (RecordWritten base length) = plain.record-written (base .0) length
-callOf (Free base) = plain.free (base .0)
-callOf (Written a n) = plain.written (a .0) n
-callOf (Ask a) = plain.ask (a .0)
-callOf (Valid a n from) = plain.valid (a .0) n (from .0)
-callOf (Initialised a n) = plain.initialised (a .0) n
-callOf (Next a) = plain.next (a .0)
-callOf Audit = plain.audit
+callOf (case.Query q) = queryOf q
+callOf (case.Update u) = updateOf u

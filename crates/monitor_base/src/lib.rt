@@ -14,17 +14,27 @@ pub struct Answer {
     pub fourth: u32,
 }
 
-pub enum Call {
-    Clear,
-    Record(Address, u32),
-    RecordWritten(Address, u32),
-    Free(Address),
-    Written(Address, u32),
+// The calls that only read.
+pub enum Query {
     Ask(Address),
     Valid(Address, u32, Address),
     Initialised(Address, u32),
     Next(Address),
     Audit,
+}
+
+// The calls that write.
+pub enum Update {
+    Clear,
+    Record(Address, u32),
+    RecordWritten(Address, u32),
+    Free(Address),
+    Written(Address, u32),
+}
+
+pub enum Call {
+    Query(Query),
+    Update(Update),
 }
 
 // Where an address lies: its position in the area's shadow.

@@ -1,9 +1,14 @@
-// Where an address lies: its area, and its position there.
+// Where an address lies: its area, and its position there; and where an area ends.
+ghost use mathlib.Core.Path.{_≡_};
+ghost use mathlib.Core.Bool.{true};
+ghost use Prim.Native.Nat.{_-_};
+ghost use Rattle.map.specs.Map.{goodMap, startOf, endOf};
 ghost use Rattle.monitor_base.specs.Locating.{Lies};
 use crate::Located;
 use map::Address;
 use map::Area;
 use map::Map;
+use map::Position;
 
 pub fn locate(map: Map, a: Address) -> Located
     ensures { λ r. ⌜ Lies map (a .0) r ⌝ }
@@ -15,4 +20,12 @@ pub fn locate(map: Map, a: Address) -> Located
         Area::Stack => Located::Stack(map::to_position(a, start)),
         Area::Outside => Located::Outside,
     }
+}
+
+// The position of an area's end.
+pub fn end(map: Map, area: Area) -> Position
+    requires { ⌜ goodMap map ≡ true ⌝ }
+    ensures { λ r. ⌜ r .0 ≡ endOf map area - startOf map area ⌝ }
+{
+    map::to_position(map.end_of(area), map.start_of(area))
 }

@@ -1,37 +1,12 @@
 // The calls for C and Rust to link: a map is an array of four numbers, a shadow a pointer and a length, the answer fields go into a lent
 // array of four, and the number is returned.
 ghost use mathlib.Core.Path.{_≡_};
-ghost use lib.ListN.{length};
 ghost use Rattle.plain.specs.Call as plain;
-ghost use Rattle.monitor_base.specs.Answers.{answerOf};
 ghost use Rattle.monitor_base.specs.Calls.{call};
-ghost use Rattle.monitor_c.specs.Lent.{mapOf, answered, left};
+ghost use Rattle.monitor_c_lent.specs.Lent.{mapOf, left};
 use map::Address;
-use map::Map;
-use monitor::Answer;
-
-fn map_of(map: &[u32; 4]) -> Map
-    ensures { λ r. ⌜ r ≡ mapOf (now (map .entry)) ⌝ }
-{
-    Map {
-        heap_start: map[0],
-        heap_size: map[1],
-        stack_start: map[2],
-        stack_size: map[3],
-    }
-}
-
-// The fields go into the lent array, the number is the result.
-fn told(r: Answer, fields: &mut [u32]) -> u32
-    requires { ⌜ length (now fields) ≡ 4 ⌝ }
-    ensures { λ k. ⌜ answered k (now (fields .exit)) ≡ answerOf r ⌝ }
-{
-    fields[0] = r.first;
-    fields[1] = r.second;
-    fields[2] = r.third;
-    fields[3] = r.fourth;
-    r.number
-}
+use monitor_c_lent::map_of;
+use monitor_c_lent::told;
 
 #[no_mangle]
 pub extern "C" fn block_monitor_clear(
@@ -158,15 +133,7 @@ pub extern "C" fn block_monitor_valid(
         ≡ call (mapOf (now (map .entry))) (plain.valid address n from) (now (heap .entry), (now (primary .entry), now (secondary .entry))) ⌝ }
 {
     told(
-        monitor::valid(
-            map_of(map),
-            heap,
-            primary,
-            secondary,
-            Address(address),
-            n,
-            Address(from),
-        ),
+        monitor_c_lent::valid(map, heap, primary, secondary, address, n, from),
         fields,
     )
 }

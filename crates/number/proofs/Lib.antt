@@ -4,3 +4,4 @@ pub mod BitLaws
 pub mod PartLaws
 pub mod ZeroLaws
 pub mod WordLaws
+pub mod RunLaws

@@ -132,6 +132,19 @@ is-over a n f h g e into low high =
     go q k (inside x y) = into q k x y ∙ sym (over-in a n f h q k x y)
     go q k (above x y) = high q k x ∙ sym (over-above a n f h q k x)
 
+-- one byte of the part is set
+pub set-over : (a n k v : ℕ) (f : ℕ → ℕ) (h : List ℕ) → a ≤ k → k < a + n → k < length h
+    → set (over a n f h) k v ≡ over a n (λ q. cond (eqb q k) v (f q)) h
+set-over a n k v f h x y z =
+    is-over a n (λ q. cond (eqb q k) v (f q)) h (set (over a n f h) k v) (length-set (over a n f h) k v ∙ length-over a n f h)
+    (λ q u i j. go q u i j (test (eqb q k)))
+    (λ q u i. getD-set-other (over a n f h) k q v 0 (λ e. omega arith) ∙ over-below a n f h q u i)
+    (λ q u i. getD-set-other (over a n f h) k q v 0 (λ e. omega arith) ∙ over-above a n f h q u i)
+  where
+    go : (q : ℕ) → q < length h → a ≤ q → q < a + n → Test (eqb q k) → at (set (over a n f h) k v) q ≡ cond (eqb q k) v (f q)
+    go q u i j (is-true e) = let d : q ≡ k = eqb-true q k e in rw (e, d) (getD-set-same (over a n f h) k v 0 (rw (length-over a n f h) z))
+    go q u i j (is-false e) = rw e (getD-set-other (over a n f h) k q v 0 (eqb-false q k e) ∙ over-in a n f h q u i j)
+
 pub over-ext : (a n : ℕ) (f g : ℕ → ℕ) (h : List ℕ) → ((q : ℕ) → a ≤ q → q < a + n → f q ≡ g q) → over a n f h ≡ over a n g h
 over-ext a n f g h e =
     is-over a n g h (over a n f h) (length-over a n f h) (λ q k x y. over-in a n f h q k x y ∙ e q x y) (over-below a n f h) (over-above a n f h)

@@ -63,6 +63,11 @@ same-digits m a b r s h k =
 pub cond-true : {A : Type 0} (c : Bool) (x y : A) → c ≡ true → cond c x y ≡ x
 cond-true c x y e = rw e
 
+-- what holds of both holds of either
+pub cond-both : {A : Type 0} (P : A → Type 0) (c : Bool) (x y : A) → P x → P y → P (cond c x y)
+cond-both P true x y h k = h
+cond-both P false x y h k = k
+
 -- ---- lo ≤ p < hi, as a test
 
 pub in-true : (lo hi p : ℕ) → lo ≤ p → p < hi → (leb lo p && ltb p hi) ≡ true

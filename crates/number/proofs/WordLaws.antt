@@ -1,16 +1,12 @@
 -- Laws of a word as its bytes: masks of each byte, the count of odd bytes. Assumes nothing.
 use mathlib.Core.Path.{_≡_, refl, sym, ap, _∙_}
-use mathlib.Core.Bool.{true}
 use Prim.Native.Nat.{ℕ, zero, suc, _+_, _-_, _*_, _/_, _%_, _^_, _≤_, _<_, suc-le-suc}
 use native.Mathlib.Omega.{arith}
-use native.Mathlib.Numerals.{add-one}
 use native.Mathlib.Nat.{add-zero, zero-add, add-suc, suc-add, pow-suc, mul-comm, mul-assoc}
 use lib.Bits.{bitAnd, bitOr, or-mod, or-shr, and-block, and-mask, and-high, and-zero-l}
-use lib.Count as count
 use lib.Pow.{mod-pow-add, ones-split, ones-lt, high}
-use borrow.Author.Tests.{eq-eqb}
 use Rattle.number.specs.Little.{byteOf, word}
-use Rattle.number.specs.Parts.{zeros, oddBytes}
+use Rattle.number.specs.Parts.{oddBytes}
 use Rattle.number.proofs.LittleLaws.{word-of, word-same}
 
 -- each value is a byte
@@ -41,12 +37,6 @@ word-bytes w n h = word-of (byteOf n) w 0 n (λ i k. rw (zero-add i)) h
 -- equal words have equal bytes
 pub word-inj : (f g : ℕ → ℕ) → AllBytes f → AllBytes g → (w p q i : ℕ) → word f p w ≡ word g q w → i < w → f (p + i) ≡ g (q + i)
 word-inj f g b c w p q i e h = sym (byteOf-word f b w p i h) ∙ ap (λ (x : ℕ). byteOf x i) e ∙ byteOf-word g c w q i h
-
--- a word of zeros
-pub word-zero : (f : ℕ → ℕ) (q w : ℕ) → word f q w ≡ 0 → zeros f q w ≡ true
-unfolding word zeros
-word-zero f q zero e = refl
-word-zero f q (suc w) e = rw (eq-eqb (f q) 0 (omega arith)) (word-zero f (suc q) w (omega arith))
 
 -- a mask that is the same in each byte, and at least as long
 pub word-and : (f : ℕ → ℕ) (c : ℕ) → AllBytes f → c < 256 → (w k q p : ℕ) → bitAnd (word f q w) (word (λ i. c) p (w + k)) ≡ word (λ i. bitAnd (f i) c) q w
@@ -88,20 +78,6 @@ and-low x n h =
     let m : 18446744073709551615 / 2 ^ k ≡ 2 ^ j - 1 =
     ap (λ (y : ℕ). (2 ^ y - 1) / 2 ^ k) e ∙ ap (λ (y : ℕ). y / 2 ^ k) (ones-split j k) ∙ high (2 ^ j - 1) k (ones-lt k) in
     ap (bitAnd x) m ∙ and-mask x j ∙ sym (word-low n x)
-
-trailing-low : (k n j : ℕ) → j ≤ count.trailingZeros k n → n % 2 ^ j ≡ 0
-unfolding count.trailingZeros
-trailing-low k n zero h = omega arith
-trailing-low zero n (suc j) h = absurd (omega arith)
-trailing-low (suc k) n (suc j) h = go (n % 2) refl h (trailing-low k (n / 2) j)
-  where
-    go : (d : ℕ) → n % 2 ≡ d → suc j ≤ count.under d (count.trailingZeros k (n / 2)) → (j ≤ count.trailingZeros k (n / 2) → n / 2 % 2 ^ j ≡ 0) → n % 2 ^ suc j ≡ 0
-    go zero e l ih = rw (← add-one j, mod-pow-add n j 1, e, ih (omega arith))
-    go (suc d) e l ih = absurd (omega arith)
-
--- the low bytes below the lowest bit that is set
-pub zeros-low : (x r : ℕ) → r ≡ count.trailingZeros 64 x / 8 → zeros (byteOf x) 0 r ≡ true
-zeros-low x r e = word-zero (byteOf x) 0 r (word-low r x ∙ trailing-low 64 x (8 * r) (omega arith))
 
 -- ---- the count of odd bytes
 

@@ -19,6 +19,11 @@ unfoldable pub zeros : (ℕ → ℕ) → ℕ → ℕ → Bool
 zeros f q zero = true
 zeros f q (suc n) = eqb (f q) 0 && zeros f (suc q) n
 
+-- how many of the n places from q on pass the test, up to the first that does not
+unfoldable pub runOf : (ℕ → Bool) → ℕ → ℕ → ℕ
+runOf t q zero = 0
+runOf t q (suc n) = cond (t q) (suc (runOf t (suc q) n)) 0
+
 -- how many of the n bytes from place q on are odd, f the bytes
 unfoldable pub oddBytes : (ℕ → ℕ) → ℕ → ℕ → ℕ
 oddBytes f q zero = 0

@@ -2,17 +2,19 @@
 use mathlib.Core.Path.{_≡_, refl, sym, ap, _∙_}
 use mathlib.Core.Bool.{Bool, true, false, cond}
 use mathlib.Core.List.{List, [], _∷_, _++_}
+use mathlib.Core.Option.{some}
 use Prim.Native.Nat.{ℕ, zero, suc, _+_, _-_, _≤_, _<_}
 use native.Mathlib.Omega.{arith}
 use native.Mathlib.Nat.{sub-self}
-use lib.ListN.{set, replicate, length-set, length-replicate}
+use lib.ListN.{set, replicate, length-set, length-replicate, getD-replicate}
 use lib.Dec.{ltb}
 use borrow.Author.Tests.{ltb-true, ltb-false, ne-eqb}
+use Rattle.number.specs.Bits.{bit}
 use Rattle.number.proofs.TestLaws.{Test, is-true, is-false, test, false-of}
-use Rattle.plain.specs.Block.{Block, len, begun, contains, holds, markBlock}
+use Rattle.plain.specs.Block.{Block, len, begun, contains, holds, isWritten, markBlock}
 use Rattle.plain.specs.Blocks.{find, any, insert, markOne, markAll}
 use Rattle.plain.specs.Rules.{Rules, Placed, Sound, meets}
-use Rattle.plain.specs.Call.{begin, written, number, done, firstOf, byRules}
+use Rattle.plain.specs.Call.{begin, written, ask, answer, number, done, firstOf, byRules}
 use Rattle.plain.specs.PlainList.{byList, plainStep}
 use Rattle.plain.proofs.BlockLaws.{contains-true, true-contains, true-holds}
 use Rattle.plain.proofs.KeptLaws.{any-false, base-inside, apart}
@@ -21,7 +23,7 @@ use Rattle.plain.proofs.RunLaws.{Joins, begin-joins, number-first}
 -- ---- the marks of one block
 
 -- n marks are set from mark i on, one after the other
-setMany : (ms : List Bool) (i n : ℕ) → List Bool
+unfoldable pub setMany : (ms : List Bool) (i n : ℕ) → List Bool
 setMany ms i zero = ms
 setMany ms i (suc n) = setMany (set ms i true) (suc i) n
 
@@ -31,7 +33,7 @@ set-later x ms i zero = refl
 set-later x ms i (suc n) = set-later x (set ms i true) (suc i) n
 
 -- whatever they all were before
-set-all : (w : Bool) (l : ℕ) → setMany (replicate l w) 0 l ≡ replicate l true
+pub set-all : (w : Bool) (l : ℕ) → setMany (replicate l w) 0 l ≡ replicate l true
 unfolding setMany
 set-all w zero = refl
 set-all w (suc l) = set-later true (replicate l w) 0 l ∙ ap (λ (ms : List Bool). true ∷ ms) (set-all w l)
@@ -47,6 +49,16 @@ any-insert p b (c ∷ cs) e = go (ltb (b .base) (c .base)) (test (p c)) (any-ins
     go true s ih = rw e
     go false (is-true h) ih = rw h
     go false (is-false h) ih = rw h ih
+
+-- where no listed block is so, the one that joined is found
+find-insert : (p : Block → Bool) (b : Block) (bs : List Block) → p b ≡ true → any p bs ≡ false → find p (insert b bs) ≡ some b
+unfolding find insert
+find-insert p b [] e m = rw e
+find-insert p b (c ∷ cs) e m = let n = any-false p c cs m in go (ltb (b .base) (c .base)) (n .0) (find-insert p b cs e (n .1))
+  where
+    go : (t : Bool) → p c ≡ false → find p (insert b cs) ≡ some b → find p (cond t (b ∷ c ∷ cs) (c ∷ insert b cs)) ≡ some b
+    go true n ih = rw e
+    go false n ih = rw n ih
 
 -- a byte that no listed block holds is marked in the one that joined
 mark-insert : (a : ℕ) (b : Block) (bs : List Block) → contains a b ≡ true → any (contains a) bs ≡ false
@@ -130,9 +142,30 @@ module _ (R : Rules) (G : Sound R) where
       marked : markAll b l (insert (begun w b l) bs) ≡ insert (record { base = b; marks = setMany (replicate l w) (b - b) l }) bs
       marked = marks-insert l b (begun w b l) bs (omega arith) (omega (arith, ln)) alone
 
+  ask-found : (x : ℕ) (bs : List Block) (c : Block) → R .inside x ≡ true → find (contains x) bs ≡ some c
+      → (plainStep R (ask x) bs) .1 ≡ answer 0 (c .base) (len c) (x - c .base) (bit (isWritten c x))
+  unfolding plainStep
+  ask-found x bs c i f = rw (i, f)
+
   -- where a recording is accepted, written of the whole block leaves what recording it as written does
   pub begin-written : (w : Bool) (b l : ℕ) (bs : List Block) → Placed R 0 bs → number ((plainStep R (begin w b l) bs) .1) ≡ 0
       → plainStep R (written b l) ((plainStep R (begin w b l) bs) .0) ≡ ((plainStep R (begin true b l) bs) .0, done)
   begin-written w b l bs P e =
       let z : firstOf (byRules R (begin w b l) ++ byList R (begin w b l) bs) ≡ 0 = sym (number-first R (begin w b l) bs) ∙ e in
       rw (begin-step w b l bs z, begin-step true b l bs z) (written-step w b l bs P (begin-joins R w b l bs z))
+
+  -- and what ask answers of each of its bytes right after it
+  pub begin-ask : (w : Bool) (b l : ℕ) (bs : List Block) → Placed R 0 bs → number ((plainStep R (begin w b l) bs) .1) ≡ 0 → (x : ℕ) → b ≤ x → x < b + l
+      → (plainStep R (ask x) ((plainStep R (begin w b l) bs) .0)) .1 ≡ answer 0 b l (x - b) (bit w)
+  begin-ask w b l bs P e x p q =
+      let z : firstOf (byRules R (begin w b l) ++ byList R (begin w b l) bs) ≡ 0 = sym (number-first R (begin w b l) bs) ∙ e in
+      rw (begin-step w b l bs z) (asked (begin-joins R w b l bs z))
+    where
+      ln : len (begun w b l) ≡ l
+      ln = length-replicate l w
+
+      asked : Joins R b l bs → (plainStep R (ask x) (insert (begun w b l) bs)) .1 ≡ answer 0 b l (x - b) (bit w)
+      asked j = ask-found x (insert (begun w b l) bs) (begun w b l) (G .in-inside b l x (j .fits) p q)
+          (find-insert (contains x) (begun w b l) bs (true-contains x (begun w b l) p (omega (arith, ln)))
+          (no-share b l (j .some) (j .fits) bs 0 P (j .alone) x p q))
+          ∙ rw (ln, getD-replicate l (x - b) w false (omega arith))

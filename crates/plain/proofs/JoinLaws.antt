@@ -23,7 +23,7 @@ or-true : (a b : Bool) → (a || b) ≡ true → a ≡ false → b ≡ true
 or-true true b e f = absurd (true≢false f)
 or-true false b e f = e
 
-true-or : (a b : Bool) → b ≡ true → (a || b) ≡ true
+pub true-or : (a b : Bool) → b ≡ true → (a || b) ≡ true
 true-or true b e = refl
 true-or false b e = e
 

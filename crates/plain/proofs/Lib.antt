@@ -15,3 +15,4 @@ pub mod BegunLaws
 pub mod ClimbLaws
 pub mod MarkedLaws
 pub mod TotalLaws
+pub mod StampedLaws

@@ -9,16 +9,19 @@ use Rattle.plain.specs.Rules.{Rules}
 use Rattle.plain.specs.Reading.{Tally, tally}
 use Rattle.plain.specs.Ops.{Ops}
 
--- A where the address is A's, else B
+-- what the rules of the area that holds an address say: A's where the address is A's, else B's
+abbrev pub byArea : {X : Type 0} → Rules → Rules → (a : ℕ) → (Rules → X) → X
+byArea A B a says = cond (A .inside a) (says A) (says B)
+
 abbrev pub joinRules : Rules → Rules → Rules
 joinRules A B =
     record {
       inside = λ a. A .inside a || B .inside a;
-      fits = λ b l. cond (A .inside b) (A .fits b l) (B .fits b l);
-      aligned = λ b. cond (A .inside b) (A .aligned b) (B .aligned b);
-      low = λ b l. cond (A .inside b) (A .low b l) (B .low b l);
-      high = λ b l. cond (A .inside b) (A .high b l) (B .high b l);
-      heap = λ a. cond (A .inside a) (A .heap a) (B .heap a);
+      fits = λ b l. byArea A B b (λ R. R .fits b l);
+      aligned = λ b. byArea A B b (λ R. R .aligned b);
+      low = λ b l. byArea A B b (λ R. R .low b l);
+      high = λ b l. byArea A B b (λ R. R .high b l);
+      heap = λ a. byArea A B a (λ R. R .heap a);
       top = max (A .top) (B .top);
     }
 
@@ -27,16 +30,23 @@ plus none t = none
 plus (some s) none = none
 plus (some (tally h k l w)) (some (tally h′ k′ l′ w′)) = some (tally (h + h′) (k + k′) (l + l′) (w + w′))
 
+-- what the shadows of the one area say, or those of the other; one of them changes, and the other stays
+abbrev pub readOne : {X Y Z : Type 0} → Bool → (X → Z) → (Y → Z) → X × Y → Z
+readOne first f g s = cond first (f (s .0)) (g (s .1))
+
+abbrev pub writeOne : {X Y : Type 0} → Bool → (X → X) → (Y → Y) → X × Y → X × Y
+writeOne {X} {Y} first f g s = cond {A = X × Y} first (f (s .0), s .1) (s .0, g (s .1))
+
 abbrev pub joinOps : {X Y : Type 0} → Rules → Ops X → Ops Y → Ops (X × Y)
-joinOps {X} {Y} A OA OB =
+joinOps A OA OB =
     record {
       cleared = (OA .cleared, OB .cleared);
-      read = λ s a. cond (A .inside a) (OA .read (s .0) a) (OB .read (s .1) a);
-      vacant = λ s b l. cond (A .inside b) (OA .vacant (s .0) b l) (OB .vacant (s .1) b l);
-      stamp = λ s b. cond {A = X × Y} (A .inside (b .base)) (OA .stamp (s .0) b, s .1) (s .0, OB .stamp (s .1) b);
-      erase = λ s x l. cond {A = X × Y} (A .inside x) (OA .erase (s .0) x l, s .1) (s .0, OB .erase (s .1) x l);
-      mark = λ s a. cond {A = X × Y} (A .inside a) (OA .mark (s .0) a, s .1) (s .0, OB .mark (s .1) a);
-      marked = λ s a. cond (A .inside a) (OA .marked (s .0) a) (OB .marked (s .1) a);
+      read = λ s a. readOne (A .inside a) (λ x. OA .read x a) (λ y. OB .read y a) s;
+      vacant = λ s b l. readOne (A .inside b) (λ x. OA .vacant x b l) (λ y. OB .vacant y b l) s;
+      stamp = λ s b. writeOne (A .inside (b .base)) (λ x. OA .stamp x b) (λ y. OB .stamp y b) s;
+      erase = λ s b l. writeOne (A .inside b) (λ x. OA .erase x b l) (λ y. OB .erase y b l) s;
+      mark = λ s a. writeOne (A .inside a) (λ x. OA .mark x a) (λ y. OB .mark y a) s;
+      marked = λ s a. readOne (A .inside a) (λ x. OA .marked x a) (λ y. OB .marked y a) s;
       audit = λ s. plus (OA .audit (s .0)) (OB .audit (s .1));
     }
 

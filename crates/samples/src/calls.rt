@@ -1,15 +1,14 @@
 // One call on given shadow bytes: `on: heap@8=1,0 pri@0=4 : ask 4104`.
-use crate::fields;
-use crate::given;
-use crate::names;
-use crate::output;
-use crate::scan;
-use crate::scan::Place;
-use calls_format::records::Decoded;
-use calls_format::records::Request;
+ghost use mathlib.Core.Path.{_≡_};
+ghost use lib.ListN.{replicate};
+ghost use Rattle.samples_bytes.specs.Given.{isGiven, storeAll};
+use calls_format::Decoded;
+use calls_format::Request;
 use map::Map;
 use monitor::Answer;
 use monitor::Call;
+use monitor::Update;
+use samples_text::Place;
 
 // The call, under the map of all samples.
 fn step(
@@ -36,8 +35,8 @@ fn answer_request(
     secondary: &mut [u8; 32],
 ) {
     match request {
-        Request::NewMap(_) => output::malformed(),
-        Request::Call(call) => output::answer(kind, step(call, heap, primary, secondary)),
+        Request::NewMap(_) => crate::malformed(),
+        Request::Call(call) => crate::write_answer(kind, step(call, heap, primary, secondary)),
     }
 }
 
@@ -49,15 +48,15 @@ fn answer_named(
     primary: &mut [u8; 32],
     secondary: &mut [u8; 32],
 ) {
-    let name = names::name_at(line, at);
+    let name = samples_records::names::name_at(line, at);
     let mut bytes = [0u8; 64];
-    let fields = fields::put(line, name.at, name.kind, &mut bytes);
-    if !scan::at_end(line, fields.at) {
-        output::malformed();
+    let fields = samples_records::put(line, name.at, name.kind, &mut bytes);
+    if !samples_text::at_end(line, fields.at) {
+        crate::malformed();
         return;
     }
-    let Decoded::Call(request) = fields::decode(&bytes, fields.length) else {
-        output::malformed();
+    let Decoded::Call(request) = crate::decode(&bytes, fields.length) else {
+        crate::malformed();
         return;
     };
     answer_request(name.kind, request, heap, primary, secondary);
@@ -71,34 +70,45 @@ fn answer_call(
     primary: &mut [u8; 32],
     secondary: &mut [u8; 32],
 ) {
-    let start = scan::skip_spaces(line, at);
-    let clear = scan::after_name(line, start, b"clear");
+    let start = samples_text::skip_spaces(line, at);
+    let clear = samples_text::after_name(line, start, b"clear");
     if start == clear {
         answer_named(line, start, heap, primary, secondary);
         return;
     }
-    if scan::at_end(line, clear) {
-        output::answer(0, step(Call::Clear, heap, primary, secondary));
+    if samples_text::at_end(line, clear) {
+        crate::write_answer(
+            0,
+            step(Call::Update(Update::Clear), heap, primary, secondary),
+        );
     } else {
-        output::malformed();
+        crate::malformed();
     }
 }
 
-// The answer, and each shadow that the call changed.
-pub fn answer(line: &[u8], at: usize) {
+// The answer, and each shadow that the call changed, or a question mark where the call is malformed.
+// Nothing, and false, where the given bytes are.
+pub fn answer(line: &[u8], at: usize) -> bool
+    ensures { λ r. ⌜ r ≡ isGiven (storeAll 4096 (now (line .entry)) at (replicate 64 0) (replicate 32 0) (replicate 32 0)) ⌝ }
+{
     let mut heap = [0u8; 64];
     let mut primary = [0u8; 32];
     let mut secondary = [0u8; 32];
-    let Place::At(colon) = given::store_all(line, at, &mut heap, &mut primary, &mut secondary)
-    else {
-        output::malformed();
-        return;
+    let Place::At(colon) = samples_bytes::store_all(
+        line,
+        at,
+        &mut heap,
+        &mut primary,
+        &mut secondary,
+    ) else {
+        return false;
     };
     let heap_was = heap;
     let primary_was = primary;
     let secondary_was = secondary;
     answer_call(line, colon, &mut heap, &mut primary, &mut secondary);
-    let in_heap = output::heap_change(&heap_was, &heap);
-    let in_primary = output::stack_change(b" pri@", &primary_was, &primary, in_heap);
-    output::stack_change(b" sec@", &secondary_was, &secondary, in_primary);
+    let in_heap = crate::heap_change(&heap_was, &heap);
+    let in_primary = crate::stack_change(b" pri@", &primary_was, &primary, in_heap);
+    crate::stack_change(b" sec@", &secondary_was, &secondary, in_primary);
+    true
 }

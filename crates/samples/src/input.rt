@@ -1,4 +1,8 @@
 // Standard input, line by line.
+ghost use mathlib.Core.Path.{_≡_};
+ghost use lib.ListN.{length};
+ghost use Rattle.samples.specs.Input.{IsLine, lastLine};
+
 pub enum Line {
     End,
     // So many bytes of the buffer, before the line's end.
@@ -32,11 +36,16 @@ fn drop_rest() {
 }
 
 // The last line may lack its line end.
-fn last(n: usize) -> Line {
+fn last(n: usize) -> Line
+    ensures { λ r. ⌜ r ≡ lastLine n ⌝ }
+{
     if n == 0 { Line::End } else { Line::Whole(n) }
 }
 
-fn read_into(buffer: &mut [u8]) -> Line {
+fn read_into(buffer: &mut [u8]) -> Line
+    requires { ⌜ length (now buffer) ≡ 4096 ⌝ }
+    ensures { λ r. ⌜ IsLine 4096 (now (buffer .exit)) r ⌝ }
+{
     let mut n = 0;
     while n < buffer.len() {
         let Byte::Is(b) = next_byte() else {
@@ -53,6 +62,8 @@ fn read_into(buffer: &mut [u8]) -> Line {
 }
 
 // The next line, of at most 4,095 bytes.
-pub fn read(buffer: &mut [u8; 4096]) -> Line {
+pub fn read(buffer: &mut [u8; 4096]) -> Line
+    ensures { λ r. ⌜ IsLine 4096 (now (buffer .exit)) r ⌝ }
+{
     read_into(buffer)
 }

@@ -1,3 +1,4 @@
 pub mod ShadowLaws
 pub mod LookLaws
 pub mod TotalLaws
+pub mod ByteLaws

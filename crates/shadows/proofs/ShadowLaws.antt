@@ -20,12 +20,15 @@ use Rattle.plain.specs.Lift.{liftOps, downs}
 use Rattle.plain.specs.Join.{Separate}
 use Rattle.plain.proofs.AreaLaws.{ranges-separate, heap-sound, heap-shifted, heap-unshifted, heap-ranged, stack-sound, stack-shifted, stack-unshifted, stack-ranged}
 use Rattle.plain.proofs.LiftLaws.{lift-images, lift-scanned}
+use Rattle.plain.proofs.StampedLaws.{Stamped, lift-stamped, join-stamped}
 use Rattle.plain.proofs.JoinLaws.{join-sound, join-images, join-scanned}
 use Rattle.heap_layout.specs.Image.{heapImage}
 use Rattle.heap_layout.specs.Ops.{heapOps}
+use Rattle.heap_layout.proofs.StampedLaws.{heap-stamped}
 use Rattle.heap_layout.proofs.HeapImages.{heap-images, heap-scanned}
 use Rattle.stack_layout.specs.Image.{stackImage}
 use Rattle.stack_layout.specs.Ops.{stackOps}
+use Rattle.stack_layout.proofs.StampedLaws.{stack-stamped}
 use Rattle.stack_layout.proofs.StackImages.{stack-images, stack-scanned}
 use Rattle.shadows.specs.Shadows.{Shadows, lengthsFit, shadowOps, image}
 
@@ -108,3 +111,13 @@ module _ (m : Map) (ok : goodMap m ≡ true) where
       (heapImage 4 8 hz) (λ h. length h ≡ hz) (heap-scanned 4 8 hz (omega arith) (omega arith) (omega (arith, g .heapMost)) (g .heapSize8)))
       (lift-scanned ss K (stackRules 0 sz) (stack-shifted ss sz) (stack-unshifted ss sz) (stackOps sz) (stackImage sz)
       (λ s. (length (s .0) ≡ sz) × (length (s .1) ≡ sz)) (stack-scanned sz (omega (arith, g .stackMost))))
+
+  -- and a block that begins on any shadows of the right lengths is read, and marked, as one that begins on an image
+  pub shadow-stamped : Stamped (mapRules m) (shadowOps m) (Fit m)
+  shadow-stamped =
+      join-stamped H K heaps stacks separate (liftOps hs (heapOps 4 8 hz)) (liftOps ss (stackOps sz)) (λ h. length h ≡ hz)
+      (λ s. (length (s .0) ≡ sz) × (length (s .1) ≡ sz))
+      (lift-stamped hs H (heapRules 8 0 hz) (heap-shifted 8 hs hz (g .heapStart8)) (heapOps 4 8 hz) (λ h. length h ≡ hz)
+      (heap-stamped 4 8 hz (omega arith) (omega arith) (omega (arith, g .heapMost)) (g .heapSize8)))
+      (lift-stamped ss K (stackRules 0 sz) (stack-shifted ss sz) (stackOps sz) (λ s. (length (s .0) ≡ sz) × (length (s .1) ≡ sz))
+      (stack-stamped sz (omega (arith, g .stackMost))))

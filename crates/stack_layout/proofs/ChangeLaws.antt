@@ -82,14 +82,14 @@ module _ (size : ℕ) (bs : List Block) (P : Placed (stackRules 0 size) 0 bs) wh
     marked-byte own q = layer-mark R S covers (λ p. p) (in-foot size) q own 0 a b bs 0 P e (rw as-long)
 
     -- a byte that the block makes as before stays
-    same-byte : (own : Block → ℕ → ℕ) (q : ℕ) → (b .base ≤ q → own (markBlock a b) q ≡ own b q) → byBlock own (markOne a bs) q ≡ byBlock own bs q
+    pub same-byte : (own : Block → ℕ → ℕ) (q : ℕ) → (b .base ≤ q → own (markBlock a b) q ≡ own b q) → byBlock own (markOne a bs) q ≡ byBlock own bs q
     same-byte own q k = marked-byte own q ∙ go (test (contains q b))
       where
         go : Test (contains q b) → cond (contains q b) (own (markBlock a b) q) (byBlock own bs q) ≡ byBlock own bs q
         go (is-true t) = let h = contains-true q b t in rw t (k (h .0) ∙ sym (byte-same size bs P own a q b e (h .0) (h .1)))
         go (is-false t) = rw t
 
-    primary-here : primaryByte (markOne a bs) a ≡ withWritten (primaryByte bs a)
+    pub primary-here : primaryByte (markOne a bs) a ≡ withWritten (primaryByte bs a)
     unfolding primaryOwn primaryOf
     primary-here =
         rw (
@@ -101,7 +101,7 @@ module _ (size : ℕ) (bs : List Block) (P : Placed (stackRules 0 size) 0 bs) wh
         )
         (omega (arith, bit-lt (isWritten b a)))
 
-    primary-there : (q : ℕ) → (q ≡ a → ⊥) → primaryByte (markOne a bs) q ≡ primaryByte bs q
+    pub primary-there : (q : ℕ) → (q ≡ a → ⊥) → primaryByte (markOne a bs) q ≡ primaryByte bs q
     unfolding primaryOwn
     primary-there q n =
         same-byte primaryOwn q (λ x. rw (as-long, getD-set-other (b .marks) (a - b .base) (q - b .base) true false (λ z. n (omega (arith, held)))))

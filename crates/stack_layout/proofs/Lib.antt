@@ -7,3 +7,5 @@ pub mod ChangeLaws
 pub mod RestLaws
 pub mod WalkLaws
 pub mod StackImages
+pub mod ByteLaws
+pub mod StampedLaws

@@ -1,7 +1,7 @@
 -- `calls::main` is safe and ends. Assumes nothing.
 use Prim.Native.Nat.{_-_, _≤_}
 use borrow.Author.Needs.{needs}
-use Rattle.calls.specs.Buffers.{Goes}
+use Rattle.calls_turn.specs.Turn.{Goes}
 use Rattle.calls.proofs.main.Statement.{statement}
 use Rattle.calls.proofs.main.Tie as tie
 
@@ -32,9 +32,6 @@ flush-requires c κs = search needs
 returns : tie.Need-returns Inv-loop μ-loop
 returns c = search needs
 
-returns-2 : tie.Need-returns-2 Inv-loop μ-loop
-returns-2 c = search needs
-
 pub main-spec : {M : Type 1} → statement M
 main-spec =
     tie.close
@@ -47,5 +44,4 @@ main-spec =
     loop-less
     loop-again
     flush-requires
-    returns
-    returns-2)
+    returns)

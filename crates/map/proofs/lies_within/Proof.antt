@@ -1,4 +1,4 @@
--- `lies_within` meets its contract: the difference is below the size exactly where the address is below the end. Assumes nothing.
+-- `map::lies_within` meets its contract: the difference is below the size exactly where the address is below the end. Assumes nothing.
 use mathlib.Core.Path.{_≡_, sym}
 use Prim.Native.Nat.{ℕ, _+_, _-_, _≤_}
 use native.Mathlib.Omega.{arith}

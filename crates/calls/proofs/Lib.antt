@@ -1,4 +1,0 @@
-pub mod WholeLaws
-pub mod CopyLaws
-pub mod WindowLaws
-pub mod TurnLaws

@@ -1,0 +1,81 @@
+// The kind and the length of each record of a calls file.
+ghost use mathlib.Core.Path.{_≡_};
+ghost use Rattle.monitor_base.specs.Answers.{callOf, queryOf, updateOf};
+ghost use Rattle.calls_format.specs.Decoded as kinds;
+ghost use Rattle.calls_format.specs.Decoded.{requested, callKind, kindOf, lengthOf};
+use calls_format::Request;
+use monitor_base::Call;
+use monitor_base::Query;
+use monitor_base::Update;
+
+// How long a record of a kind is; 0 where the kind is unknown.
+pub fn record_length(kind: u32) -> usize
+    ensures { λ r. ⌜ r ≡ lengthOf kind ⌝ }
+{
+    match kind {
+        1 => 20,
+        6 => 16,
+        2 | 4 | 7 | 10 => 12,
+        3 | 5 | 8 => 8,
+        9 => 4,
+        _ => 0,
+    }
+}
+
+// Whether the calls of a kind write.
+pub fn writes(kind: u32) -> bool
+    ensures { λ r. ⌜ r ≡ kinds.writes kind ⌝ }
+{
+    (kind == 2) | (kind == 3) | (kind == 4) | (kind == 10)
+}
+
+fn query_kind(query: Query) -> u32
+    ensures { λ r. ⌜ r ≡ callKind (queryOf query) ⌝ }
+{
+    match query {
+        Query::Ask(_) => 5,
+        Query::Valid(_, _, _) => 6,
+        Query::Initialised(_, _) => 7,
+        Query::Next(_) => 8,
+        Query::Audit => 9,
+    }
+}
+
+// 0 for clear, which has no kind of its own.
+fn update_kind(update: Update) -> u32
+    ensures { λ r. ⌜ r ≡ callKind (updateOf update) ⌝ }
+{
+    match update {
+        Update::Clear => 0,
+        Update::Record(_, _) => 2,
+        Update::RecordWritten(_, _) => 10,
+        Update::Free(_) => 3,
+        Update::Written(_, _) => 4,
+    }
+}
+
+fn call_kind(call: Call) -> u32
+    ensures { λ r. ⌜ r ≡ callKind (callOf call) ⌝ }
+{
+    match call {
+        Call::Query(query) => query_kind(query),
+        Call::Update(update) => update_kind(update),
+    }
+}
+
+// The kind of a request's record.
+pub fn kind_of(r: Request) -> u32
+    ensures { λ k. ⌜ k ≡ kindOf (requested r) ⌝ }
+{
+    match r {
+        Request::NewMap(_) => 1,
+        Request::Call(call) => call_kind(call),
+    }
+}
+
+// How many bytes a request's record has.
+pub fn length_of(r: Request) -> usize
+    ensures { λ n. ⌜ n ≡ lengthOf (kindOf (requested r)) ⌝ }
+{
+    record_length(kind_of(r))
+}

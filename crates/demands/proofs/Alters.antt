@@ -1,0 +1,295 @@
+-- What the calls that write alter, proved: see specs/Alters.antt for what each says. Assumes nothing.
+use mathlib.Core.Path.{_≡_, refl, sym, ap, _∙_}
+use mathlib.Core.Bool.{Bool, true, false, cond, not, _&&_, true≢false}
+use mathlib.Core.List.{List, [], _∷_}
+use Prim.Native.Nat.{ℕ, zero, suc, _+_, _*_, _-_, _≤_, _<_}
+use native.Mathlib.Omega.{arith}
+use lib.ListN.{length, length-set, length-replicate, List·getD-eq-default}
+use lib.Dec.{ltb}
+use borrow.Author.Tests.{ltb-true, ltb-false, not-false, eqb-false}
+use Rattle.number.specs.Parts.{at, tab, inPart, over}
+use Rattle.number.proofs.TestLaws.{Test, is-true, is-false, test, cond-true}
+use Rattle.number.proofs.PartLaws.{length-over, at-over, at-tab-out}
+use Rattle.map.specs.declared.Map.{Map}
+use Rattle.map.specs.Map.{goodMap}
+use Rattle.map.proofs.MapLaws.{Good, good-true, within-true, true-within}
+use Rattle.plain.specs.Block.{Block, len, begun}
+use Rattle.plain.specs.Rules.{Placed}
+use Rattle.plain.specs.Areas.{segments, heapRules, stackRules, mapRules}
+use Rattle.plain.specs.Reading.{Reading, nothing, block, damaged}
+use Rattle.plain.specs.Lift.{readingUp, down}
+use Rattle.plain.specs.Join.{only}
+use Rattle.plain.specs.Ops.{markRange, readAny}
+use Rattle.plain.specs.Call.{Call, clear, record-block, begin, free, written, ask, valid, initialised, next, audit, number, firstOf, unless}
+use Rattle.plain.specs.ShadowCalls.{lengthOf, inOne, shadowsAfter, shadowAnswer}
+use Rattle.heap_layout.specs.Reading.{heapReading}
+use Rattle.plain.proofs.AreaLaws.{heap-shifted, stack-shifted}
+use Rattle.plain.proofs.JoinLaws.{true-or}
+use Rattle.plain.proofs.KeptLaws.{base-inside}
+use Rattle.plain.proofs.StampedLaws.{Stands}
+use Rattle.heap_layout.specs.Image.{heapByte, heapImage}
+use Rattle.heap_layout.specs.Ops.{placeLength, heapStamp, heapErase, heapMark}
+use Rattle.heap_layout.proofs.SegmentLaws.{Sizes}
+use Rattle.heap_layout.proofs.StampLaws as heap
+use Rattle.stack_layout.specs.Reading.{stackReading}
+use Rattle.stack_layout.specs.Image.{primaryOwn, secondaryOwn, byBlock, primaryByte, secondaryByte, stackImage}
+use Rattle.stack_layout.specs.Ops.{stackStamp, stackErase, stackMark}
+use Rattle.stack_layout.proofs.ImageLaws as stack
+use Rattle.shadows.specs.Shadows.{Shadows, Place, heap, primary, secondary, byteAt, lengthsFit, shadowOps, image}
+use Rattle.shadows.proofs.ShadowLaws.{Fit, fit-true, map-sound}
+use Rattle.monitor_base.specs.Calls.{refusals, call}
+use Rattle.monitor_base.proofs.LocatingLaws.{heap-room, stack-room}
+use Rattle.demands.specs.Addresses.{inHeap, inStack, outside, readingAt}
+use Rattle.demands.specs.Numbers.{damageMet}
+use Rattle.demands.specs.Demand1.{numberOf}
+use Rattle.demands.specs.Alters.{inPlace, RecordStamps, FreeZeroes, WrittenMarks, LengthsKept}
+use Rattle.demands.proofs.Numbers.{number-first, outside-words, reading-words}
+use Rattle.demands.proofs.Demand1.{accepted-exactly}
+use Rattle.demands.proofs.Begun as begun
+use Rattle.demands.proofs.MarkLaws.{range-rest, range-out, range-in}
+
+-- ---- a part written over
+
+-- f written over a part, at every place, where f is 0 past the end
+at-written : (a n : ℕ) (f : ℕ → ℕ) (h : List ℕ) → ((q : ℕ) → length h ≤ q → f q ≡ 0) → (q : ℕ) → at (over a n f h) q ≡ cond (inPart a n q) (f q) (at h q)
+unfolding over
+at-written a n f h z q = go (test (ltb q (length h)))
+  where
+    none : (t : Bool) (x y : ℕ) → x ≡ 0 → y ≡ 0 → 0 ≡ cond t x y
+    none true x y d e = sym d
+    none false x y d e = sym e
+
+    go : Test (ltb q (length h)) → at (over a n f h) q ≡ cond (inPart a n q) (f q) (at h q)
+    go (is-true t) = at-over a n f h q (ltb-true q (length h) t)
+    go (is-false t) =
+        let k = ltb-false q (length h) t in
+        at-tab-out (length h) q _ k ∙ none (inPart a n q) (f q) (at h q) (z q k) (List·getD-eq-default h 0 k)
+
+-- ---- free
+
+erased : (m : Map) (s : Shadows) (x l : ℕ) (q : Place) → byteAt (shadowOps m .erase s x l) q ≡ cond (inPlace m x l q) 0 (byteAt s q)
+unfolding heapErase placeLength stackErase
+erased m s x l q = go q (test (inHeap m x))
+  where
+    go : (q : Place) → Test (inHeap m x) → byteAt (shadowOps m .erase s x l) q ≡ cond (inPlace m x l q) 0 (byteAt s q)
+    go (heap q) (is-true t) = rw t (at-written (x - m .«heap_start» - 8) (8 + segments 8 l * 8) (λ i. 0) (s .0) (λ i k. refl) q)
+    go (heap q) (is-false t) = rw t
+    go (primary q) (is-true t) = rw t
+    go (primary q) (is-false t) = rw t (at-written (x - m .«stack_start») l (λ i. 0) (s .1 .0) (λ i k. refl) q)
+    go (secondary q) (is-true t) = rw t
+    go (secondary q) (is-false t) = rw t (at-written (x - m .«stack_start») l (λ i. 0) (s .1 .1) (λ i k. refl) q)
+
+pub free-zeroes : FreeZeroes
+unfolding call
+free-zeroes m x s e q =
+    let z : firstOf (refusals m (free (suc x)) s) ≡ 0 = sym (number-first m (free (suc x)) s) ∙ e in
+    rw (z, reading-words m s (suc x)) (erased m s (suc x) (lengthOf (readingAt m s (suc x))) q)
+
+-- ---- record
+
+module _ (m : Map) (w : Bool) (b l : ℕ) (s : Shadows) (ok : goodMap m ≡ true) (f : Fit m s) (t : Stands (mapRules m) (begun w b l)) where
+  abbrev heapBlocks : List Block
+  heapBlocks = down (m .«heap_start») (begun w b l) ∷ []
+
+  abbrev stackBlocks : List Block
+  stackBlocks = down (m .«stack_start») (begun w b l) ∷ []
+
+  g : Good m
+  g = good-true m ok
+
+  sizes : Sizes 4 8 (m .«heap_size»)
+  sizes = record { wide = omega arith; two = omega arith; small = omega (arith, g .heapMost); whole = g .heapSize8 }
+
+  heap-placed : inHeap m b ≡ true → Placed (heapRules 8 0 (m .«heap_size»)) 0 heapBlocks
+  heap-placed h =
+      let H = heap-shifted 8 (m .«heap_start») (m .«heap_size») (g .heapStart8) in
+      let u : heapRules 8 (m .«heap_start») (m .«heap_size») .fits b (len (begun w b l)) ≡ true =
+      sym (cond-true (inHeap m b) _ (stackRules (m .«stack_start») (m .«stack_size») .fits b (len (begun w b l))) h) ∙ t .fits in
+      record {
+        some = t .some;
+        fits = H .s-fits b (len (begun w b l)) u .1;
+        aligned = H .s-aligned b (len (begun w b l)) u (rw h at (t .aligned));
+        room = omega arith;
+        later = tt;
+      }
+
+  heap-byte : inHeap m b ≡ true → (q : ℕ) → at (heapImage 4 8 (m .«heap_size») heapBlocks) q ≡ heapByte 4 8 heapBlocks q
+  heap-byte h q = ap (λ (x : ℕ → ℕ). x q) (heap.at-image sizes heapBlocks (heap-placed h))
+
+  heap-past : inHeap m b ≡ true → (q : ℕ) → length (s .0) ≤ q → heapByte 4 8 heapBlocks q ≡ 0
+  heap-past h q k =
+      sym (heap-byte h q)
+      ∙ List·getD-eq-default (heapImage 4 8 (m .«heap_size») heapBlocks) 0 {n = q} (omega (arith, heap.length-image sizes heapBlocks, f .0))
+
+  stack-inside : inHeap m b ≡ false → inStack m b ≡ true
+  stack-inside h = rw h at (base-inside (mapRules m) (map-sound m ok) b (len (begun w b l)) (t .some) (t .fits))
+
+  stack-placed : inHeap m b ≡ false → Placed (stackRules 0 (m .«stack_size»)) 0 stackBlocks
+  stack-placed h =
+      let H = stack-shifted (m .«stack_start») (m .«stack_size») in
+      let u : stackRules (m .«stack_start») (m .«stack_size») .fits b (len (begun w b l)) ≡ true = rw h at (t .fits) in
+      record { some = t .some; fits = H .s-fits b (len (begun w b l)) u .1; aligned = refl; room = omega arith; later = tt }
+
+  stack-byte : inHeap m b ≡ false → (own : Block → ℕ → ℕ) (q : ℕ) → at (tab 0 (m .«stack_size») (byBlock own stackBlocks)) q ≡ byBlock own stackBlocks q
+  stack-byte h own q = ap (λ (x : ℕ → ℕ). x q) (stack.at-image (m .«stack_size») stackBlocks (stack-placed h) own)
+
+  stack-past : inHeap m b ≡ false → (own : Block → ℕ → ℕ) (q : ℕ) → m .«stack_size» ≤ q → byBlock own stackBlocks q ≡ 0
+  stack-past h own q k = sym (stack-byte h own q) ∙ at-tab-out (m .«stack_size») q (byBlock own stackBlocks) k
+
+  stamped : (q : Place) → byteAt (shadowOps m .stamp s (begun w b l)) q ≡ cond (inPlace m b l q) (byteAt (image m (begun w b l ∷ [])) q) (byteAt s q)
+  unfolding heapStamp placeLength stackStamp stackImage only
+  stamped q = go q (test (inHeap m b))
+    where
+      ln : len (begun w b l) ≡ l
+      ln = length-replicate l w
+
+      go : (q : Place) → Test (inHeap m b)
+          → byteAt (shadowOps m .stamp s (begun w b l)) q ≡ cond (inPlace m b l q) (byteAt (image m (begun w b l ∷ [])) q) (byteAt s q)
+      go (heap q) (is-true h) =
+          rw (h, heap-byte h q, ln) (at-written (b - m .«heap_start» - 8) (8 + segments 8 l * 8) (heapByte 4 8 heapBlocks) (s .0) (heap-past h) q)
+      go (heap q) (is-false h) = rw h
+      go (primary q) (is-true h) = rw h
+      go (primary q) (is-false h) =
+          rw (h, stack-inside h, stack-byte h primaryOwn q, ln)
+          (at-written (b - m .«stack_start») l (primaryByte stackBlocks) (s .1 .0) (λ i k. stack-past h primaryOwn i (omega (arith, f .1 .0))) q)
+      go (secondary q) (is-true h) = rw h
+      go (secondary q) (is-false h) =
+          rw (h, stack-inside h, stack-byte h secondaryOwn q, ln)
+          (at-written (b - m .«stack_start») l (secondaryByte stackBlocks) (s .1 .1) (λ i k. stack-past h secondaryOwn i (omega (arith, f .1 .1))) q)
+
+pub record-stamps : RecordStamps
+record-stamps m w b l s e q =
+    let e′ : number ((call m (record-block b l) s) .1) ≡ 0 = number-first m (record-block b l) s ∙ sym (number-first m (begin w b l) s) ∙ e in
+    let A = begun.accepted m b l s e′ in
+    rw (begun.began m b l s e′ w) (stamped m w b l s (A .good) (A .fit) (begun.stands m b l s e′ w) q)
+
+-- ---- written
+
+module _ (m : Map) (a n : ℕ) (s : Shadows) (e : numberOf m (written a n) s ≡ 0) where
+  -- what an accepted call says of map, lengths, address and range
+  record Accepted : Type 0 where
+    good : goodMap m ≡ true
+    fit : Fit m s
+    some : 1 ≤ n
+    inside : outside m a ≡ false
+    whole : inOne n (readingAt m s a) ≡ true
+
+  accepted : Accepted
+  accepted =
+      let h = accepted-exactly m (written a n) s .1 e in
+      record {
+        good = not-false (goodMap m) (h .0);
+        fit = fit-true m s (not-false (lengthsFit m s) (h .1 .0));
+        some = omega (arith, eqb-false n 0 (h .1 .1 .0));
+        inside = h .1 .1 .1 .0;
+        whole = one (inOne n (readingAt m s a)) (damageMet m (written a n) s) (h .1 .1 .1 .1 .1 .1 .0) (h .1 .1 .1 .1 .1 .1 .1 .0);
+      }
+    where
+      one : (t d : Bool) → (not t && not d) ≡ false → d ≡ false → t ≡ true
+      one true d x y = refl
+      one false true x y = absurd (true≢false y)
+      one false false x y = sym x
+
+  -- the range lies in the area of its first address
+  all : (y : ℕ) → a ≤ y → y < a + n → mapRules m .inside y ≡ true
+  all y p q = go (test (inHeap m a)) (test (inStack m a))
+    where
+      up : (z : ℕ) (r : Reading) → inOne n (readingUp z r) ≡ true → inOne n r ≡ true
+      up z nothing i = i
+      up z (block b l o w) i = i
+      up z damaged i = i
+
+      go : Test (inHeap m a) → Test (inStack m a) → mapRules m .inside y ≡ true
+      go (is-true h) k =
+          let u = within-true (m .«heap_start») (m .«heap_size») a h in
+          let r = heap-room (m .«heap_size») (at (s .0)) (a - m .«heap_start») n
+          (up (m .«heap_start») (heapReading 4 8 (m .«heap_size») (at (s .0)) (a - m .«heap_start»)) (rw h at (accepted .whole))) in
+          rw (true-within (m .«heap_start») (m .«heap_size») y (omega arith) (omega arith))
+      go (is-false h) (is-true k) =
+          let u = within-true (m .«stack_start») (m .«stack_size») a k in
+          let r = stack-room (m .«stack_size») (at (s .1 .0)) (at (s .1 .1)) (a - m .«stack_start») n
+          (up (m .«stack_start») (stackReading (m .«stack_size») (at (s .1 .0)) (at (s .1 .1)) (a - m .«stack_start»)) (rw (h, k) at (accepted .whole))) in
+          true-or (inHeap m y) (inStack m y) (true-within (m .«stack_start») (m .«stack_size») y (omega arith) (omega arith))
+      go (is-false h) (is-false k) = absurd (true≢false (rw (h, k) at (accepted .inside)))
+
+  after : (call m (written a n) s) .0 ≡ markRange (shadowOps m) s a n
+  unfolding call
+  after = let z : firstOf (refusals m (written a n) s) ≡ 0 = sym (number-first m (written a n) s) ∙ e in rw z
+
+  inside-of : (x : ℕ) → outside m x ≡ false → mapRules m .inside x ≡ true
+  inside-of x o = not-false (mapRules m .inside x) (outside-words m x ∙ o)
+
+pub written-marks : WrittenMarks
+written-marks m a n s e =
+    let A = accepted m a n s e in
+    let r = range-rest m n a s in
+    rw (after m a n s e) (
+      λ x p q. range-in m (A .good) n a s (A .fit) (all m a n s e) x p q,
+      λ x o w. range-out m (A .good) n a s (A .fit) (all m a n s e) x (inside-of m a n s e x o) w,
+      r .heap-same,
+      r .primary-same,
+      r .secondary-same,
+    )
+
+-- ---- lengths
+
+-- t has the lengths of s
+abbrev AsLong : Shadows → Shadows → Type 0
+AsLong s t = (length (t .0) ≡ length (s .0)) × (length (t .1 .0) ≡ length (s .1 .0)) × (length (t .1 .1) ≡ length (s .1 .1))
+
+module _ (m : Map) where
+  stamp-long : (s : Shadows) (b : Block) → AsLong s (shadowOps m .stamp s b)
+  unfolding heapStamp stackStamp
+  stamp-long s b = go (test (inHeap m (b .base)))
+    where
+      go : Test (inHeap m (b .base)) → AsLong s (shadowOps m .stamp s b)
+      go (is-true h) = rw h (length-over _ _ _ (s .0), refl, refl)
+      go (is-false h) = rw h (refl, length-over _ _ _ (s .1 .0), length-over _ _ _ (s .1 .1))
+
+  erase-long : (s : Shadows) (x l : ℕ) → AsLong s (shadowOps m .erase s x l)
+  unfolding heapErase stackErase
+  erase-long s x l = go (test (inHeap m x))
+    where
+      go : Test (inHeap m x) → AsLong s (shadowOps m .erase s x l)
+      go (is-true h) = rw h (length-over _ _ _ (s .0), refl, refl)
+      go (is-false h) = rw h (refl, length-over _ _ _ (s .1 .0), length-over _ _ _ (s .1 .1))
+
+  mark-long : (s : Shadows) (y : ℕ) → AsLong s (shadowOps m .mark s y)
+  unfolding heapMark stackMark
+  mark-long s y = go (test (inHeap m y))
+    where
+      go : Test (inHeap m y) → AsLong s (shadowOps m .mark s y)
+      go (is-true h) = rw h (length-set (s .0) _ _, refl, refl)
+      go (is-false h) = rw h (refl, length-set (s .1 .0) _ _, refl)
+
+  range-long : (n a : ℕ) (s : Shadows) → AsLong s (markRange (shadowOps m) s a n)
+  unfolding markRange
+  range-long zero a s = (refl, refl, refl)
+  range-long (suc n) a s =
+      let f = mark-long s a in
+      let r = range-long n (suc a) (shadowOps m .mark s a) in (r .0 ∙ f .0, r .1 ∙ f .1, r .2 ∙ f .2)
+
+  -- what an accepted call leaves
+  after-long : (c : Call) (s : Shadows) → Fit m s → AsLong s (shadowsAfter (mapRules m) (shadowOps m) c s)
+  after-long clear s f =
+      (length-replicate (m .«heap_size») 0 ∙ sym (f .0), length-replicate (m .«stack_size») 0 ∙ sym (f .1 .0), length-replicate (m .«stack_size») 0 ∙ sym (f .1 .1))
+  after-long (begin w b l) s f = stamp-long s (begun w b l)
+  after-long (free zero) s f = (refl, refl, refl)
+  after-long (free (suc x)) s f = erase-long s (suc x) (lengthOf (readAny (mapRules m) (shadowOps m) s (suc x)))
+  after-long (written a n) s f = range-long n a s
+  after-long (ask a) s f = (refl, refl, refl)
+  after-long (valid a n from) s f = (refl, refl, refl)
+  after-long (initialised a n) s f = (refl, refl, refl)
+  after-long (next a) s f = (refl, refl, refl)
+  after-long audit s f = (refl, refl, refl)
+
+pub lengths-kept : LengthsKept
+unfolding call
+lengths-kept m c s = go (firstOf (refusals m c s)) refl
+  where
+    go : (k : ℕ) → firstOf (refusals m c s) ≡ k
+        → AsLong s ((unless k s (shadowsAfter (mapRules m) (shadowOps m) c s, shadowAnswer (mapRules m) (shadowOps m) c s)) .0)
+    go zero z =
+        let h = accepted-exactly m c s .1 (number-first m c s ∙ z) in
+        after-long m c s (fit-true m s (not-false (lengthsFit m s) (h .1 .0)))
+    go (suc k) z = (refl, refl, refl)

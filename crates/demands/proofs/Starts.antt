@@ -1,0 +1,116 @@
+-- How the bytes of a block start, on any shadows: see `BytesStart` of specs/Alters.antt. Assumes nothing.
+use mathlib.Core.Path.{_≡_, sym, ap, _∙_}
+use mathlib.Core.Bool.{Bool, true, false, _&&_}
+use mathlib.Core.List.{[], _∷_}
+use mathlib.Core.Option.{some}
+use Prim.Native.Nat.{ℕ, _+_, _*_, _-_, _/_, _%_, _≤_, _<_}
+use native.Mathlib.Omega.{arith}
+use lib.ListN.{length-replicate, getD-replicate}
+use borrow.Author.Tests.{leb-true, eqb-true}
+use native.Mathlib.Nat.{mod-lt}
+use lib.Dec.{leb, lit<}
+use Rattle.number.specs.Bits.{bit, bitOf}
+use Rattle.number.specs.Parts.{at}
+use Rattle.number.proofs.TestLaws.{Test, is-true, is-false, test, and-true, in-true, false-of}
+use Rattle.number.proofs.BitLaws.{bit-test, bitOf-lt}
+use Rattle.map.specs.declared.Map.{Map}
+use Rattle.map.proofs.MapLaws.{Good, good-true, within-true, true-within}
+use Rattle.plain.specs.Areas.{segments, mapRules}
+use Rattle.plain.specs.Block.{Block, len, begun, contains}
+use Rattle.plain.specs.Blocks.{find}
+use Rattle.plain.specs.Rules.{Placed}
+use Rattle.plain.specs.Call.{begin, record-block, number}
+use Rattle.plain.proofs.BlockLaws.{true-contains}
+use Rattle.plain.proofs.StampedLaws.{Stands}
+use Rattle.heap_layout.specs.Ops.{heapMarked}
+use Rattle.stack_layout.specs.Ops.{stackMarked}
+use Rattle.shadows.specs.Shadows.{Shadows, heap, primary, shadowOps, image}
+use Rattle.shadows.proofs.ShadowLaws.{map-sound, shadow-images}
+use Rattle.monitor_base.specs.Calls.{call}
+use Rattle.demands.specs.Addresses.{inHeap, inStack}
+use Rattle.demands.specs.Demand1.{numberOf}
+use Rattle.demands.specs.Alters.{inPlace, writtenAt, BytesStart}
+use Rattle.demands.proofs.Numbers.{number-first}
+use Rattle.demands.proofs.Begun as begun
+use Rattle.demands.proofs.Demand2.{not-both-areas}
+use Rattle.demands.proofs.Alters.{record-stamps}
+
+-- the written bit of an address, and the test of it that calls use
+pub written-marked : (m : Map) (s : Shadows) (x : ℕ) → writtenAt m s x ≡ bit (shadowOps m .marked s x)
+unfolding heapMarked stackMarked
+written-marked m s x = go (test (inHeap m x))
+  where
+    p : ℕ
+    p = x - m .«heap_start»
+
+    go : Test (inHeap m x) → writtenAt m s x ≡ bit (shadowOps m .marked s x)
+    go (is-true h) =
+        let k : p / 8 * 8 + (4 + p % 8 / 8) ≡ p / 8 * 8 + 4 = omega arith in
+        let j : p % 8 % 8 ≡ p % 8 = omega arith in
+        rw (h, k, j) (sym (bit-test (bitOf (at (s .0) (p / 8 * 8 + 4)) (p % 8)) (bitOf-lt (at (s .0) (p / 8 * 8 + 4)) (p % 8))))
+    go (is-false h) = rw h (sym (bit-test (at (s .1 .0) (x - m .«stack_start») % 2) (mod-lt (at (s .1 .0) (x - m .«stack_start»)) (lit< tt))))
+
+module _ (m : Map) (w : Bool) (b l : ℕ) (s : Shadows) (e : numberOf m (begin w b l) s ≡ 0) (x : ℕ) (from : b ≤ x) (to : x < b + l) where
+  e′ : number ((call m (record-block b l) s) .1) ≡ 0
+  e′ = number-first m (record-block b l) s ∙ sym (number-first m (begin w b l) s) ∙ e
+
+  A : begun.Accepted m b l s e′
+  A = begun.accepted m b l s e′
+
+  abbrev B : Block
+  B = begun w b l
+
+  stands : Stands (mapRules m) B
+  stands = begun.stands m b l s e′ w
+
+  placed : Placed (mapRules m) 0 (B ∷ [])
+  placed = record { some = stands .some; fits = stands .fits; aligned = stands .aligned; room = omega arith; later = tt }
+
+  in-image : writtenAt m (image m (B ∷ [])) x ≡ bit w
+  unfolding find
+  in-image =
+      let ln : len B ≡ l = length-replicate l w in
+      let c : contains x B ≡ true = true-contains x B from (omega (arith, ln)) in
+      let i : mapRules m .inside x ≡ true = map-sound m (A .good) .in-inside b l x (A .fits) from to in
+      let f : find (contains x) (B ∷ []) ≡ some B = rw c in
+      written-marked m (image m (B ∷ [])) x ∙ ap bit (shadow-images m (A .good) .image-marked (B ∷ []) placed x B i f ∙ getD-replicate l (x - b) w false (omega arith))
+
+  same : writtenAt m ((call m (begin w b l) s) .0) x ≡ writtenAt m (image m (B ∷ [])) x
+  unfolding segments
+  same = go (test (inHeap m b))
+    where
+      g : Good m
+      g = good-true m (A .good)
+
+      go : Test (inHeap m b) → writtenAt m ((call m (begin w b l) s) .0) x ≡ writtenAt m (image m (B ∷ [])) x
+      go (is-true h) =
+          let f : (leb (m .«heap_start» + 8) b && leb (b + l) (m .«heap_start» + m .«heap_size») && true) ≡ true = rw h at (A .fits) in
+          let u = and-true (leb (m .«heap_start» + 8) b && leb (b + l) (m .«heap_start» + m .«heap_size»)) true f in
+          let v = and-true (leb (m .«heap_start» + 8) b) (leb (b + l) (m .«heap_start» + m .«heap_size»)) (u .0) in
+          let lo : m .«heap_start» + 8 ≤ b = leb-true (m .«heap_start» + 8) b (v .0) in
+          let hi : b + l ≤ m .«heap_start» + m .«heap_size» = leb-true (b + l) (m .«heap_start» + m .«heap_size») (v .1) in
+          let al : b % 8 ≡ 0 = eqb-true (b % 8) 0 (rw h at (A .aligned)) in
+          let hx : inHeap m x ≡ true = true-within (m .«heap_start») (m .«heap_size») x (omega arith) (omega arith) in
+          let q : ℕ = (x - m .«heap_start») / 8 * 8 + 4 in
+          let pl : inPlace m b l (heap q) ≡ true =
+          rw h (in-true (b - m .«heap_start» - 8) (b - m .«heap_start» - 8 + (8 + segments 8 l * 8)) q (omega (arith, g .heapStart8)) (omega (arith, g .heapStart8))) in
+          let r = record-stamps m w b l s e (heap q) in
+          rw hx (ap (λ (y : ℕ). bitOf y ((x - m .«heap_start») % 8)) (r ∙ rw pl))
+      go (is-false h) =
+          let f : (leb (b + l) (m .«stack_start» + m .«stack_size») && inStack m b) ≡ true = rw h at (A .fits) in
+          let u = and-true (leb (b + l) (m .«stack_start» + m .«stack_size»)) (inStack m b) f in
+          let hi : b + l ≤ m .«stack_start» + m .«stack_size» = leb-true (b + l) (m .«stack_start» + m .«stack_size») (u .0) in
+          let st = within-true (m .«stack_start») (m .«stack_size») b (u .1) in
+          let sx : inStack m x ≡ true = true-within (m .«stack_start») (m .«stack_size») x (omega arith) (omega arith) in
+          let hx : inHeap m x ≡ false = false-of (inHeap m x) (λ y. not-both-areas m (A .good) x y sx) in
+          let q : ℕ = x - m .«stack_start» in
+          let pl : inPlace m b l (primary q) ≡ true =
+          rw h (in-true (b - m .«stack_start») (b - m .«stack_start» + l) q (omega arith) (omega arith)) in
+          let r = record-stamps m w b l s e (primary q) in
+          rw hx (ap (λ (y : ℕ). y % 2) (r ∙ rw pl))
+
+pub bytes-start : BytesStart
+bytes-start m b l s x from to = (λ e. starts false e, λ e. starts true e)
+  where
+    starts : (w : Bool) → numberOf m (begin w b l) s ≡ 0 → writtenAt m ((call m (begin w b l) s) .0) x ≡ bit w
+    starts w e = same m w b l s e x from to ∙ in-image m w b l s e x from to

@@ -1,0 +1,32 @@
+-- Samples on given shadows, damaged or not: a call and its answer under the sample map. Assumes nothing.
+use mathlib.Core.Bool.{Bool, true, _&&_}
+use mathlib.Core.List.{List, [], _∷_, _++_}
+use Prim.Native.Nat.{ℕ, _+_}
+use lib.ListN.{length, replicate, take, drop}
+use Rattle.plain.specs.Call.{Call, Answer}
+use Rattle.shadows.specs.Shadows.{Shadows}
+use Rattle.monitor_base.specs.Calls.{call}
+use Rattle.demands.specs.Samples.{sampleMap, sameAnswer}
+
+-- bytes from a position on
+abbrev pub Part : Type 0
+Part = ℕ × List ℕ
+
+-- shadows that are zero but for these parts, a call, and its answer
+pub record Given : Type 0 where
+  pub heap : List Part
+  pub primary : List Part
+  pub secondary : List Part
+  pub asks : Call
+  pub gets : Answer
+
+unfoldable pub put : List Part → List ℕ → List ℕ
+put [] h = h
+put (p ∷ ps) h = put ps (take (p .0) h ++ (p .1 ++ drop (p .0 + length (p .1)) h))
+
+abbrev pub givenShadows : Given → Shadows
+givenShadows x = (put (x .heap) (replicate 64 0), (put (x .primary) (replicate 32 0), put (x .secondary) (replicate 32 0)))
+
+unfoldable pub allGiven : List Given → Bool
+allGiven [] = true
+allGiven (x ∷ xs) = sameAnswer ((call sampleMap (x .asks) (givenShadows x)) .1) (x .gets) && allGiven xs

@@ -1,0 +1,123 @@
+-- The table "Numbers of refusal" of document 01, row by row: the calls that each number is for, and when it holds. Written from the table and
+-- the requests, of its own beside the conditions by which a call is defined (`refusals`); Demand1.antt says of it what document 01 says.
+-- Assumes nothing.
+use mathlib.Core.Bool.{Bool, true, false, cond, not, _&&_, _||_}
+use mathlib.Core.List.{List, [], _∷_}
+use Prim.Native.Nat.{ℕ, zero, suc, _+_, _*_, _-_, _%_}
+use lib.Dec.{leb, eqb}
+use Rattle.number.specs.Parts.{at, zeros}
+use Rattle.map.specs.declared.Map.{Map}
+use Rattle.map.specs.Map.{goodMap}
+use Rattle.plain.specs.Areas.{segments}
+use Rattle.plain.specs.Reading.{Reading}
+use Rattle.plain.specs.Call.{Call, clear, begin, free, written, ask, valid, initialised, next, audit, Refusal}
+use Rattle.plain.specs.ShadowCalls.{isDamaged, isBlock, isFirst, inOne, isNone}
+use Rattle.shadows.specs.Shadows.{Shadows, lengthsFit, shadowOps}
+use Rattle.demands.specs.Addresses.{inHeap, outside, endOfAreas, readingAt}
+
+-- 3, "length or n is 0": record, written, valid, initialised
+abbrev pub isEmpty : Call → Bool
+isEmpty clear = false
+isEmpty (begin w b l) = eqb l 0
+isEmpty (free x) = false
+isEmpty (written a n) = eqb n 0
+isEmpty (ask a) = false
+isEmpty (valid a n from) = eqb n 0
+isEmpty (initialised a n) = eqb n 0
+isEmpty (next a) = false
+isEmpty audit = false
+
+-- the block fits the area of its base. "A heap header fits when base ≥ heap start + 8"
+abbrev pub fitsArea : Map → (base length : ℕ) → Bool
+fitsArea m b l =
+    cond (inHeap m b) (leb (m .«heap_start» + 8) b && leb (b + l) (m .«heap_start» + m .«heap_size»))
+    (leb (b + l) (m .«stack_start» + m .«stack_size»))
+
+-- 4, "address in neither area; for record also when the block, or a heap block's header, does not fit the area of its base": record, free,
+-- written, ask. S-2: not free of address 0
+abbrev pub isMisplaced : Map → Call → Bool
+isMisplaced m clear = false
+isMisplaced m (begin w b l) = outside m b || not (fitsArea m b l)
+isMisplaced m (free zero) = false
+isMisplaced m (free (suc x)) = outside m (suc x)
+isMisplaced m (written a n) = outside m a
+isMisplaced m (ask a) = outside m a
+isMisplaced m (valid a n from) = false
+isMisplaced m (initialised a n) = false
+isMisplaced m (next a) = false
+isMisplaced m audit = false
+
+-- 5, "heap base is no multiple of 8": record
+abbrev pub isUnaligned : Map → Call → Bool
+isUnaligned m clear = false
+isUnaligned m (begin w b l) = inHeap m b && not (eqb (b % 8) 0)
+isUnaligned m (free x) = false
+isUnaligned m (written a n) = false
+isUnaligned m (ask a) = false
+isUnaligned m (valid a n from) = false
+isUnaligned m (initialised a n) = false
+isUnaligned m (next a) = false
+isUnaligned m audit = false
+
+-- every byte of the place is zero: "header and segments; primary and secondary of the range"
+abbrev pub placeZero : Map → Shadows → (base length : ℕ) → Bool
+placeZero m s b l =
+    cond (inHeap m b) (zeros (at (s .0)) (b - m .«heap_start» - 8) (8 + segments 8 l * 8))
+    (zeros (at (s .1 .0)) (b - m .«stack_start») l && zeros (at (s .1 .1)) (b - m .«stack_start») l)
+
+-- 6, "some shadow byte of the place is not zero": record
+abbrev pub isTaken : Map → Call → Shadows → Bool
+isTaken m clear s = false
+isTaken m (begin w b l) s = not (placeZero m s b l)
+isTaken m (free x) s = false
+isTaken m (written a n) s = false
+isTaken m (ask a) s = false
+isTaken m (valid a n from) s = false
+isTaken m (initialised a n) s = false
+isTaken m (next a) s = false
+isTaken m audit s = false
+
+-- of the n addresses from a on one is damaged, and no reading below it is an answer of next: none has offset 0
+unfoldable pub damagedFirst : (ℕ → Reading) → (a n : ℕ) → Bool
+damagedFirst rd a zero = false
+damagedFirst rd a (suc n) = isDamaged (rd a) || (not (isFirst (rd a)) && damagedFirst rd (suc a) n)
+
+-- of the n addresses from a on none has offset 0
+unfoldable pub noneBegins : (ℕ → Reading) → (a n : ℕ) → Bool
+noneBegins rd a zero = true
+noneBegins rd a (suc n) = not (isFirst (rd a)) && noneBegins rd (suc a) n
+
+-- 8, "a reading is damaged (for valid, either reading; for written and initialised, the first byte's; for next, one met before an answer);
+-- for audit, no image": all but clear and record. S-2: free of address 0 takes no reading. What audit finds is no image: Demand2.antt, `AuditOnly`
+-- and `AuditRefuses`
+abbrev pub damageMet : Map → Call → Shadows → Bool
+damageMet m clear s = false
+damageMet m (begin w b l) s = false
+damageMet m (free zero) s = false
+damageMet m (free (suc x)) s = isDamaged (readingAt m s (suc x))
+damageMet m (written a n) s = isDamaged (readingAt m s a)
+damageMet m (ask a) s = isDamaged (readingAt m s a)
+damageMet m (valid a n from) s = isDamaged (readingAt m s a) || isDamaged (readingAt m s from)
+damageMet m (initialised a n) s = isDamaged (readingAt m s a)
+damageMet m (next a) s = damagedFirst (readingAt m s) a (endOfAreas m - a)
+damageMet m audit s = isNone (shadowOps m .audit s)
+
+-- 7, "no block there; for free, base not a block's first byte; for written, range not in one block; for next, none follows": free, written,
+-- ask, next. S-2: not free of address 0
+abbrev pub blockMissed : Map → Call → Shadows → Bool
+blockMissed m clear s = false
+blockMissed m (begin w b l) s = false
+blockMissed m (free zero) s = false
+blockMissed m (free (suc x)) s = not (isFirst (readingAt m s (suc x)))
+blockMissed m (written a n) s = not (inOne n (readingAt m s a))
+blockMissed m (ask a) s = not (isBlock (readingAt m s a))
+blockMissed m (valid a n from) s = false
+blockMissed m (initialised a n) s = false
+blockMissed m (next a) s = noneBegins (readingAt m s) a (endOfAreas m - a)
+blockMissed m audit s = false
+
+-- the rows of the table, by their numbers; 7 "never where 8 holds"
+abbrev pub rows : Map → Call → Shadows → List Refusal
+rows m c s =
+    (1, not (goodMap m)) ∷ (2, not (lengthsFit m s)) ∷ (3, isEmpty c) ∷ (4, isMisplaced m c) ∷ (5, isUnaligned m c) ∷ (6, isTaken m c s)
+    ∷ (7, blockMissed m c s && not (damageMet m c s)) ∷ (8, damageMet m c s) ∷ []

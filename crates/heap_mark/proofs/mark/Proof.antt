@@ -1,0 +1,106 @@
+-- `heap_mark::mark` meets its contract: the first segment's positions, then those from the next segment on. Assumes nothing.
+use mathlib.Core.Path.{_≡_, refl, sym, _∙_}
+use Prim.Native.Nat.{_+_, _-_, _*_, _/_, _%_}
+use native.Mathlib.Omega.{arith}
+use denote.Ref.{now}
+use lib.ListN.{length, set, length-set}
+use Rattle.plain.proofs.MarkedLaws.{mark-none}
+use Rattle.heap_layout.specs.Ops.{heapOps}
+use Rattle.heap_laws.proofs.MarkLaws.{mark-part, mark-first}
+use borrow.Author.Needs.{needs}
+use Rattle.heap_mark.proofs.mark.Statement.{statement}
+use Rattle.heap_mark.proofs.mark.Tie as tie
+
+returns : tie.Need-returns
+returns c =
+    let a = c .before .before .args in
+    sym (mark-none (heapOps 4 8 (length (now (a .heap)))) (now (a .heap)) (a .p .0) (a .n) (c .if1 .taken))
+
+mul-segment : tie.Need-mul-segment
+mul-segment c = search needs
+
+cast-j : tie.Need-cast-j
+cast-j c = search needs
+
+add-if2 : tie.Need-add-if2
+add-if2 c = search needs
+
+add-set-bits : tie.Need-add-set-bits
+add-set-bits c = search needs
+
+index-1-set-bits : tie.Need-index-1-set-bits
+index-1-set-bits c = search needs
+
+set-bits-requires : tie.Need-set-bits-requires
+set-bits-requires c κs = search needs
+
+same-length : tie.Need-same-length
+same-length c = search needs
+
+returns-2 : tie.Need-returns-2
+returns-2 c =
+    let a = c .before .before .before .before .before .args in
+    let h = now (a .heap) in
+    sym (mark-part (length h) h (a .p .0) (a .n) (a .p .0 / 8 * 8 + 4) (a .p .0 % 8) (omega arith) refl refl _ (omega arith) (c .set-bits .ensures))
+
+add-set-bits-2 : tie.Need-add-set-bits-2
+add-set-bits-2 c = search needs
+
+index-1-set-bits-2 : tie.Need-index-1-set-bits-2
+index-1-set-bits-2 c = search needs
+
+sub-set-bits : tie.Need-sub-set-bits
+sub-set-bits c = search needs
+
+set-bits-requires-2 : tie.Need-set-bits-requires-2
+set-bits-requires-2 c κs = search needs
+
+add-next : tie.Need-add-next
+add-next c = search needs
+
+add-end : tie.Need-add-end
+add-end c = search needs
+
+mark-from-requires : tie.Need-mark-from-requires
+mark-from-requires c κs =
+    let a = c .before .before .before .before .before .before .args in
+    let l = length-set (now (a .heap)) (a .p .0 / 8 * 8 + 4) (c .before .set-bits2 .last .0) in
+    ((omega arith, omega arith, omega arith), (omega arith, omega arith))
+
+same-length-2 : tie.Need-same-length-2
+same-length-2 c = c .before .heap .given ∙ simp length-set
+
+returns-3 : tie.Need-returns-3
+returns-3 c =
+    let s = c .before .before .before .before .before .before .before .before .before in
+    let h = now (s .args .heap) in
+    let p = s .args .p .0 in
+    let v = c .before .before .before .before .set-bits2 .last .0 in
+    let g = set h (p / 8 * 8 + 4) v in
+    let l : length g ≡ length h = length-set h (p / 8 * 8 + 4) v in
+    let e : p + (8 - p % 8) ≡ p / 8 * 8 + 8 = omega arith in
+    c .before .before .mark-from .ensures
+    ∙ rw (l, ← e) (sym (mark-first (length h) h p (8 - p % 8) (p / 8 * 8 + 4) (p % 8) (omega arith) refl refl (s .args .n) (p + s .args .n - (p + (8 - p % 8))) (omega arith) v (omega arith) (c .before .before .before .before .set-bits2 .ensures)))
+
+pub mark-spec : {M : Type 1} → statement M
+mark-spec =
+    tie.close
+    (tie.spec
+    returns
+    mul-segment
+    cast-j
+    add-if2
+    add-set-bits
+    index-1-set-bits
+    set-bits-requires
+    same-length
+    returns-2
+    add-set-bits-2
+    index-1-set-bits-2
+    sub-set-bits
+    set-bits-requires-2
+    add-next
+    add-end
+    mark-from-requires
+    same-length-2
+    returns-3)

@@ -1,0 +1,53 @@
+// A heap block as it begins, stamped into its place: header and segments, at segments of 8 bytes and numbers of 4.
+use map::Position;
+ghost use mathlib.Core.Path.{_≡_};
+ghost use Prim.Native.Nat.{_+_, _-_, _%_, _≤_};
+ghost use lib.ListN.{length, replicate};
+ghost use Rattle.number.specs.Bits.{ofBits};
+ghost use Rattle.number.specs.Parts.{over};
+ghost use Rattle.plain.specs.Block.{begun};
+ghost use Rattle.heap_layout.specs.Ops.{heapStamp};
+ghost use Rattle.heap_laws.specs.Pair.{pairByte};
+
+// Two numbers into the segment at a position.
+fn put_segment(heap: &mut [u8], p: Position, low: u32, high: u32)
+    requires { ⌜ p .0 + 8 ≤ length (now heap) ⌝ }
+    ensures { λ _. ⌜ now (heap .exit) ≡ over (p .0) 8 (λ q. pairByte 4 low high (q - p .0)) (now (heap .entry)) ⌝ }
+{
+    let Position(at) = p;
+    number_words::put_at(heap, at, low);
+    number_words::put_at(heap, at + 4, high);
+}
+
+// The written bits of a segment of which the block has n bytes, as the block begins. None is set past its end.
+fn first_bits(written: bool, n: u32) -> u32
+    requires { ⌜ n ≤ 8 ⌝ }
+    ensures { λ r. ⌜ r ≡ ofBits (replicate n written) ⌝ }
+{
+    if written {
+        return number_bits::low_bits(n);
+    }
+    0
+}
+
+// The header of a block, and for each of its segments the number and the written bits of the block's bytes in it, all set or none.
+pub fn stamp(heap: &mut [u8], base: Position, len: u32, written: bool)
+    requires { ⌜ (8 ≤ base .0) × (base .0 % 8 ≡ 0) × (base .0 + len ≤ length (now heap)) ⌝ }
+    requires { ⌜ (1 ≤ len) × (length (now heap) % 8 ≡ 0) × (length (now heap) ≤ 131072) ⌝ }
+    ensures { λ _. ⌜ now (heap .exit) ≡ heapStamp 4 8 (now (heap .entry)) (begun written (base .0) len) ⌝ }
+{
+    let Position(b) = base;
+    let header = b - 8;
+    put_segment(heap, Position(header), 0, len);
+    let whole = first_bits(written, 8);
+    let mut d: u32 = 0;
+    while d + 8 <= len {
+        let segment = b + (d as usize);
+        put_segment(heap, Position(segment), d + 1, whole);
+        d += 8;
+    }
+    if d < len {
+        let last = b + (d as usize);
+        put_segment(heap, Position(last), d + 1, first_bits(written, len - d));
+    }
+}

@@ -1,0 +1,114 @@
+-- `monitor_ask::ask` meets its contract. Assumes nothing.
+use mathlib.Core.Path.{_≡_, sym, _∙_}
+use mathlib.Core.Bool.{true}
+use mathlib.Core.List.{[], _∷_}
+use mathlib.Core.Logic.{⊎-elim}
+use Prim.Native.Nat.{ℕ}
+use native.Mathlib.Omega.{arith}
+use types.Run.{OneOf}
+use denote.Enum.Declared.{tagOf}
+use denote.Ref.{now}
+use Rattle.map.specs.Map.{goodMap}
+use Rattle.plain.specs.Call.{ask}
+use Rattle.shadows.specs.Shadows.{Shadows, lengthsFit}
+use Rattle.monitor_base.specs.declared.Located.{Located}
+use Rattle.monitor_base.specs.declared.Located.the-variants.{Heap, Stack, Outside}
+use Rattle.monitor_base.proofs.Located.{the-type}
+use Rattle.monitor_base.proofs.CallLaws.{early-good}
+use Rattle.monitor_read_laws.proofs.AnswerLaws.{answers, refuses}
+use Rattle.monitor_read_laws.proofs.AskingLaws.{ask-at, ask-out, there, base-at}
+use borrow.Author.Needs.{needs}
+use Rattle.monitor_ask.proofs.ask.Statement.{statement}
+use Rattle.monitor_ask.proofs.ask.Tie as tie
+
+-- what the place after the test for neither area knows: the tag of another case
+in-area : (l : Located) → OneOf (0 ∷ (1 ∷ [])) (tagOf the-type l) → l ≡ Outside → ⊥
+in-area (Heap p) o e = let z : _≡_ {A = ℕ} 0 1 = cc in omega arith
+in-area (Stack p) o e = let z : _≡_ {A = ℕ} 0 1 = cc in omega arith
+in-area Outside o e = ⊎-elim (λ x. omega arith) (λ x. omega arith) o
+
+-- the function's entry
+abbrev entry : tie.Else1 → tie.Start
+entry c = c .before .before .before .before .before
+
+abbrev shadows : tie.Start → Shadows
+shadows c = (now (c .args .heap), (now (c .args .primary), now (c .args .secondary)))
+
+good : (c : tie.Else1) → (goodMap (entry c .args .map) ≡ true) × (lengthsFit (entry c .args .map) (shadows (entry c)) ≡ true)
+unfolding lengthsFit
+good c = early-good (entry c .args .map) (shadows (entry c)) (sym (c .if1 .left) ∙ c .before .checked .ensures)
+
+checked-requires : tie.Need-checked-requires
+checked-requires c κs = search needs
+
+refusal-requires : tie.Need-refusal-requires
+refusal-requires c κs = search needs
+
+returns : tie.Need-returns
+unfolding lengthsFit
+returns c =
+    let e = c .before .before .before .before .before .before in
+    refuses (e .args .map) (ask (e .args .a .0)) (shadows e) (c .refusal .result) _ (c .refusal .ensures) (c .before .before .checked .ensures) (c .before .if1 .taken)
+
+locate-requires : tie.Need-locate-requires
+locate-requires c κs = search needs
+
+enum-told : tie.Need-enum-told
+enum-told c = search needs
+
+refusal-requires-2 : tie.Need-refusal-requires-2
+refusal-requires-2 c κs = search needs
+
+returns-2 : tie.Need-returns-2
+returns-2 c =
+    let l = c .before .before .before in
+    let e = entry (l .before) in
+    let g = good (l .before) in
+    answers (e .args .map) (ask (e .args .a .0)) (shadows e) (c .refusal2 .result) _ (c .refusal2 .ensures)
+    (ask-out (e .args .map) (shadows e) (g .0) (g .1) (e .args .a .0) (rw (c .before .enum-told .given .1) at (l .locate .ensures)))
+
+reading-requires : tie.Need-reading-requires
+reading-requires c κs =
+    let l = c .before in
+    let e = entry (l .before) in
+    let g = good (l .before) in
+    there (e .args .map) (shadows e) (g .0) (g .1) (e .args .a .0) (l .locate .result) (l .locate .ensures)
+
+origin-requires : tie.Need-origin-requires
+origin-requires c κs = search needs
+
+told-requires : tie.Need-told-requires
+told-requires c κs =
+    let r = c .before in
+    let l = r .before .before in
+    let e = entry (l .before) in
+    let g = good (l .before) in
+    base-at (e .args .map) (shadows e) (g .0) (g .1) (l .locate .result) (r .reading .result) (r .reading .ensures) _ (c .origin .ensures)
+
+returns-3 : tie.Need-returns-3
+returns-3 c =
+    let o = c .before in
+    let r = o .before in
+    let m = r .before in
+    let l = m .before in
+    let e = entry (l .before) in
+    let g = good (l .before) in
+    answers (e .args .map) (ask (e .args .a .0)) (shadows e) (c .told .result) _ (c .told .ensures)
+    (ask-at (e .args .map) (shadows e) (g .0) (g .1) (e .args .a .0) (l .locate .result) (l .locate .ensures) (in-area _ (m .match .keys2)) _ (r .reading .ensures) _
+    (o .origin .ensures))
+
+pub ask-spec : {M : Type 1} → statement M
+ask-spec =
+    tie.close
+    (tie.spec
+    checked-requires
+    refusal-requires
+    returns
+    locate-requires
+    enum-told
+    refusal-requires-2
+    returns-2
+    reading-requires
+    origin-requires
+    told-requires
+    returns-3)

@@ -1,0 +1,66 @@
+// The call that tells of an address: one reading and an answer.
+ghost use mathlib.Core.Path.{_≡_};
+ghost use Prim.Native.Nat.{_-_};
+ghost use Rattle.plain.specs.Answers.{readingOf};
+ghost use Rattle.plain.specs.Lift.{readingUp};
+ghost use Rattle.monitor_base.specs.Answers.{answerOf, outcome};
+ghost use Rattle.monitor_base.specs.Calls.{call};
+ghost use Rattle.monitor_read_laws.specs.Asked.{originOf, askReading, baseBelow};
+ghost use Rattle.plain.specs.Call as plain;
+use map::Address;
+use map::Map;
+use monitor_base::Answer;
+use monitor_base::Located;
+use monitor_base::guard;
+use monitor_base::locating::locate;
+use plain::Reading;
+
+// The start of the area that it lies in: the origin of its positions.
+fn origin(map: Map, l: Located) -> Address
+    ensures { λ r. ⌜ r .0 ≡ originOf map l ⌝ }
+{
+    match l {
+        Located::Heap(_) => Address(map.heap_start),
+        Located::Stack(_) => Address(map.stack_start),
+        Located::Outside => Address(0),
+    }
+}
+
+// What ask answers to a reading in the area that begins at start.
+fn told(r: Reading, start: Address) -> Answer
+    requires { ⌜ baseBelow r (4294967296 - start .0) ⌝ }
+    ensures { λ x. ⌜ answerOf x ≡ askReading (readingUp (start .0) (readingOf r)) ⌝ }
+{
+    match r {
+        Reading::Nothing => guard::refusal(7),
+        Reading::Damaged => guard::refusal(8),
+        Reading::Block(base, length, offset, written) => {
+            Answer {
+                number: 0,
+                first: map::to_address(base, start).0,
+                second: length,
+                third: offset,
+                fourth: written as u32,
+            }
+        }
+    }
+}
+
+// Base, length, offset, and 1 where the byte is written or else 0.
+pub fn ask(map: Map, heap: &[u8], primary: &[u8], secondary: &[u8], a: Address) -> Answer
+    ensures { λ r. ⌜ outcome r (now (heap .entry)) (now (primary .entry)) (now (secondary .entry))
+        ≡ call map (plain.ask (a .0)) (now (heap .entry), (now (primary .entry), now (secondary .entry))) ⌝ }
+{
+    let k = guard::checked(map, heap.len(), primary.len(), secondary.len());
+    if k != 0 {
+        return guard::refusal(k);
+    }
+    let l = locate(map, a);
+    if let Located::Outside = l {
+        return guard::refusal(4);
+    }
+    told(
+        monitor_reading::reading(heap, primary, secondary, l),
+        origin(map, l),
+    )
+}

@@ -1,3 +1,0 @@
-pub mod Asked
-pub mod Audited
-pub mod Searched

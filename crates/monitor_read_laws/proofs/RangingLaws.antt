@@ -1,0 +1,189 @@
+-- The calls about n bytes, by readings in the areas that the bytes lie in. Assumes nothing.
+use mathlib.Core.Path.{_≡_, refl, sym, _∙_}
+use mathlib.Core.Bool.{Bool, true, false, _||_}
+use mathlib.Core.Logic.{_≢_}
+use Prim.Native.Nat.{ℕ, _+_, _-_, _≤_, _<_}
+use native.Mathlib.Omega.{arith}
+use lib.ListN.{length}
+use borrow.Author.Tests.{eq-eqb, ne-eqb}
+use Rattle.number.specs.Parts.{at}
+use Rattle.number.proofs.TestLaws.{Test, is-true, is-false, test, false-of}
+use Rattle.map.specs.declared.Map.{Map}
+use Rattle.map.specs.declared.Area.the-variants.{Heap, Stack, Outside}
+use Rattle.map.specs.Map.{goodMap, within, areaOf}
+use Rattle.map.proofs.MapLaws.{Good, good-true, within-true, true-within}
+use Rattle.plain.specs.Areas.{mapRules}
+use Rattle.plain.specs.Call.{Answer, valid, initialised, refusal, yesNo}
+use Rattle.plain.specs.Lift.{readingUp}
+use Rattle.plain.specs.Ops.{readAny, rangeMarked}
+use Rattle.plain.specs.Reading.{Reading, nothing, block, damaged}
+use Rattle.plain.specs.ShadowCalls.{isDamaged, inOne, sameBlock, shadowStep}
+use Rattle.plain.proofs.MarkedLaws.{range-same}
+use Rattle.heap_layout.specs.Ops.{heapMarked, heapOps}
+use Rattle.heap_layout.specs.Reading.{heapReading}
+use Rattle.heap_layout.proofs.ReadingLaws as heap
+use Rattle.stack_layout.specs.Ops.{stackMarked, stackOps}
+use Rattle.stack_layout.specs.Reading.{stackReading}
+use Rattle.stack_layout.proofs.ReadingLaws as stack
+use Rattle.shadows.specs.Shadows.{Shadows, lengthsFit, shadowOps}
+use Rattle.monitor_base.specs.Calls.{call}
+use Rattle.monitor_base.proofs.CallLaws.{call-step}
+use Rattle.monitor_base.proofs.LocatingLaws.{area-heap, area-stack, heap-lengths, stack-lengths, read-heap, read-stack, read-out, heap-room, stack-room}
+use Rattle.monitor_read_laws.specs.Asked.{validAnswer, apartAnswer, initialisedAnswer}
+use Rattle.monitor_read_laws.proofs.JudgingLaws.{up-damaged, up-one, valid-up, valid-apart}
+
+same-none : (r : Reading) → sameBlock r nothing ≡ false
+same-none nothing = refl
+same-none (block b l o w) = refl
+same-none damaged = refl
+
+module _ (m : Map) (s : Shadows) (ok : goodMap m ≡ true) (fit : lengthsFit m s ≡ true) where
+  abbrev hs : ℕ
+  hs = m .«heap_start»
+
+  abbrev ss : ℕ
+  ss = m .«stack_start»
+
+  -- the reading of an address; of a position of the heap, of the stack
+  abbrev rd : ℕ → Reading
+  rd = readAny (mapRules m) (shadowOps m) s
+
+  abbrev H : ℕ → Reading
+  H = heapReading 4 8 (length (s .0)) (at (s .0))
+
+  abbrev K : ℕ → Reading
+  K = stackReading (length (s .1 .0)) (at (s .1 .0)) (at (s .1 .1))
+
+  good : Good m
+  good = good-true m ok
+
+  -- ---- valid
+
+  -- a block of the heap begins in the heap, one of the stack in the stack
+  bases : (p q b l o w c k i v : ℕ) → H p ≡ block b l o w → K q ≡ block c k i v → hs + b ≢ ss + c
+  bases p q b l o w c k i v e f h =
+      let t = heap.reading-told 4 8 (length (s .0)) (at (s .0)) p b l o w e in
+      let u = stack.reading-told (length (s .1 .0)) (at (s .1 .0)) (at (s .1 .1)) q c k i v f in
+      let x = heap-lengths m s ok fit .0 in
+      let y = stack-lengths m s ok fit .0 in
+      good .noShare (omega arith) (omega arith)
+
+  heap-stack : (p q : ℕ) → sameBlock (readingUp hs (H p)) (readingUp ss (K q)) ≡ false
+  heap-stack p q = go (H p) refl (K q) refl
+    where
+      go : (r : Reading) → H p ≡ r → (t : Reading) → K q ≡ t → sameBlock (readingUp hs r) (readingUp ss t) ≡ false
+      go nothing e t f = refl
+      go damaged e t f = refl
+      go (block b l o w) e nothing f = refl
+      go (block b l o w) e damaged f = refl
+      go (block b l o w) e (block c k i v) f = rw (ne-eqb (hs + b) (ss + c) (bases p q b l o w c k i v e f))
+
+  stack-heap : (p q : ℕ) → sameBlock (readingUp ss (K p)) (readingUp hs (H q)) ≡ false
+  stack-heap p q = go (K p) refl (H q) refl
+    where
+      go : (r : Reading) → K p ≡ r → (t : Reading) → H q ≡ t → sameBlock (readingUp ss r) (readingUp hs t) ≡ false
+      go nothing e t f = refl
+      go damaged e t f = refl
+      go (block b l o w) e nothing f = refl
+      go (block b l o w) e damaged f = refl
+      go (block b l o w) e (block c k i v) f = rw (ne-eqb (ss + b) (hs + c) (λ h. bases q p c k i v b l o w f e (sym h)))
+
+  -- r is the reading of the first byte, t that of the byte at b
+  module _ (n : ℕ) (r t : Reading) (b q : ℕ) (x : Answer) where
+    pub valid-heap-heap : (p : ℕ) → r ≡ H p → areaOf m b ≡ Heap → q ≡ b - hs → t ≡ H q → x ≡ validAnswer n r t → x ≡ validAnswer n (readingUp hs (H p)) (rd b)
+    valid-heap-heap p er e z et y = y ∙ rw (er, et, read-heap m s ok fit b q e z .0) (sym (valid-up n hs (H p) (H q)))
+
+    pub valid-stack-stack : (p : ℕ) → r ≡ K p → areaOf m b ≡ Stack → q ≡ b - ss → t ≡ K q → x ≡ validAnswer n r t
+        → x ≡ validAnswer n (readingUp ss (K p)) (rd b)
+    valid-stack-stack p er e z et y = y ∙ rw (er, et, read-stack m s ok fit b q e z .0) (sym (valid-up n ss (K p) (K q)))
+
+    pub valid-heap-stack : (p : ℕ) → r ≡ H p → areaOf m b ≡ Stack → q ≡ b - ss → t ≡ K q → x ≡ apartAnswer r t
+        → x ≡ validAnswer n (readingUp hs (H p)) (rd b)
+    valid-heap-stack p er e z et y =
+        rw (read-stack m s ok fit b q e z .0) (valid-apart n (H p) (K q) _ _ (up-damaged hs (H p)) (up-damaged ss (K q)) (heap-stack p q) x (y ∙ rw (er, et)))
+
+    pub valid-stack-heap : (p : ℕ) → r ≡ K p → areaOf m b ≡ Heap → q ≡ b - hs → t ≡ H q → x ≡ apartAnswer r t
+        → x ≡ validAnswer n (readingUp ss (K p)) (rd b)
+    valid-stack-heap p er e z et y =
+        rw (read-heap m s ok fit b q e z .0) (valid-apart n (K p) (H q) _ _ (up-damaged ss (K p)) (up-damaged hs (H q)) (stack-heap p q) x (y ∙ rw (er, et)))
+
+  -- the first byte lies in neither area
+  module _ (n : ℕ) (t : Reading) (b q : ℕ) (x : Answer) where
+    pub valid-out-heap : areaOf m b ≡ Heap → q ≡ b - hs → t ≡ H q → x ≡ apartAnswer nothing t → x ≡ validAnswer n nothing (rd b)
+    valid-out-heap e z et y =
+        rw (read-heap m s ok fit b q e z .0) (valid-apart n nothing (H q) nothing _ refl (up-damaged hs (H q)) refl x (y ∙ rw et))
+
+    pub valid-out-stack : areaOf m b ≡ Stack → q ≡ b - ss → t ≡ K q → x ≡ apartAnswer nothing t → x ≡ validAnswer n nothing (rd b)
+    valid-out-stack e z et y =
+        rw (read-stack m s ok fit b q e z .0) (valid-apart n nothing (K q) nothing _ refl (up-damaged ss (K q)) refl x (y ∙ rw et))
+
+  -- the byte at b lies in neither area
+  pub valid-out : (n start : ℕ) (r R : Reading) (b : ℕ) (x : Answer) → r ≡ R → areaOf m b ≡ Outside → x ≡ apartAnswer r nothing
+      → x ≡ validAnswer n (readingUp start R) (rd b)
+  valid-out n start r R b x er e y =
+      rw (read-out m s b e .0) (valid-apart n R nothing _ nothing (up-damaged start R) refl (same-none (readingUp start R)) x (y ∙ rw er))
+
+  pub valid-out-out : (n b : ℕ) (x : Answer) → areaOf m b ≡ Outside → x ≡ yesNo false → x ≡ validAnswer n nothing (rd b)
+  unfolding validAnswer
+  valid-out-out n b x e y = rw (read-out m s b e .0) y
+
+  pub valid-none : (a n from : ℕ) → n ≡ 0 → call m (valid a n from) s ≡ (s, refusal 3)
+  unfolding shadowStep
+  valid-none a n from z = call-step m (valid a n from) s ok fit ∙ rw (eq-eqb n 0 z)
+
+  pub valid-reads : (a n from : ℕ) → n ≢ 0 → (r : Reading) → rd a ≡ r → call m (valid a n from) s ≡ (s, validAnswer n r (rd from))
+  unfolding shadowStep validAnswer
+  valid-reads a n from z r er = call-step m (valid a n from) s ok fit ∙ go (test (isDamaged r || isDamaged (rd from)))
+    where
+      go : Test (isDamaged r || isDamaged (rd from)) → shadowStep (mapRules m) (shadowOps m) (valid a n from) s ≡ (s, validAnswer n r (rd from))
+      go (is-true t) = rw (ne-eqb n 0 z, er, t)
+      go (is-false t) = rw (ne-eqb n 0 z, er, t)
+
+  -- ---- initialised
+
+  pub initialised-none : (a n : ℕ) → n ≡ 0 → call m (initialised a n) s ≡ (s, refusal 3)
+  unfolding shadowStep
+  initialised-none a n z = call-step m (initialised a n) s ok fit ∙ rw (eq-eqb n 0 z)
+
+  -- by the reading r of the first byte, told by addresses, and by whether all are written, which is asked only where they lie in one block
+  initialised-reads : (a n start : ℕ) → n ≢ 0 → (r : Reading) → rd a ≡ readingUp start r → (t : Bool) → (inOne n r ≡ true → rangeMarked (shadowOps m) s a n ≡ t)
+      → call m (initialised a n) s ≡ (s, initialisedAnswer n r t)
+  unfolding shadowStep initialisedAnswer
+  initialised-reads a n start z r er t f = call-step m (initialised a n) s ok fit ∙ go (test (isDamaged r)) (test (inOne n r))
+    where
+      go : Test (isDamaged r) → Test (inOne n r) → shadowStep (mapRules m) (shadowOps m) (initialised a n) s ≡ (s, initialisedAnswer n r t)
+      go (is-true d) i = rw (ne-eqb n 0 z, er, up-damaged start r, d)
+      go (is-false d) (is-false i) = rw (ne-eqb n 0 z, er, up-damaged start r, d, up-one n start r, i)
+      go (is-false d) (is-true i) = rw (ne-eqb n 0 z, er, up-damaged start r, d, up-one n start r, i, f i)
+
+  pub initialised-heap : (a n p : ℕ) → n ≢ 0 → areaOf m a ≡ Heap → p ≡ a - hs
+      → call m (initialised a n) s ≡ (s, initialisedAnswer n (H p) (rangeMarked (heapOps 4 8 (length (s .0))) (s .0) p n))
+  initialised-heap a n p z e q =
+      initialised-reads a n hs z (H p) (read-heap m s ok fit a p e q .0) _
+      (λ i. sym (range-same (heapOps 4 8 (length (s .0))) (shadowOps m) (s .0) s n p a (bit (heap-room (length (s .0)) (at (s .0)) p n i))))
+    where
+      bit : p + n ≤ length (s .0) → (i : ℕ) → i < n → heapMarked 4 8 (s .0) (p + i) ≡ shadowOps m .marked s (a + i)
+      bit room i k =
+          let x = heap-lengths m s ok fit .0 in
+          let w = within-true hs (m .«heap_size») a (area-heap m a e) in
+          let y : a + i - hs ≡ p + i = omega arith in
+          rw (true-within hs (m .«heap_size») (a + i) (omega arith) (omega arith), y)
+
+  pub initialised-stack : (a n p : ℕ) → n ≢ 0 → areaOf m a ≡ Stack → p ≡ a - ss
+      → call m (initialised a n) s ≡ (s, initialisedAnswer n (K p) (rangeMarked (stackOps (length (s .1 .0))) (s .1) p n))
+  initialised-stack a n p z e q =
+      initialised-reads a n ss z (K p) (read-stack m s ok fit a p e q .0) _
+      (λ i. sym (range-same (stackOps (length (s .1 .0))) (shadowOps m) (s .1) s n p a (bit (stack-room (length (s .1 .0)) (at (s .1 .0)) (at (s .1 .1)) p n i))))
+    where
+      bit : p + n ≤ length (s .1 .0) → (i : ℕ) → i < n → stackMarked (s .1) (p + i) ≡ shadowOps m .marked s (a + i)
+      bit room i k =
+          let x = stack-lengths m s ok fit .0 in
+          let w = within-true ss (m .«stack_size») a (area-stack m a e .1) in
+          let y : a + i - ss ≡ p + i = omega arith in
+          let out : within hs (m .«heap_size») (a + i) ≡ false =
+          false-of _ (λ t. let u = within-true hs (m .«heap_size») (a + i) t in good .noShare (omega arith) (omega arith)) in
+          rw (out, y)
+
+  pub initialised-out : (a n : ℕ) → n ≢ 0 → areaOf m a ≡ Outside → call m (initialised a n) s ≡ (s, yesNo false)
+  unfolding shadowStep
+  initialised-out a n z e = call-step m (initialised a n) s ok fit ∙ rw (ne-eqb n 0 z, read-out m s a e .0)

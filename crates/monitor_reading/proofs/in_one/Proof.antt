@@ -1,0 +1,45 @@
+-- `monitor_reading::in_one` meets its contract. Assumes nothing.
+use borrow.Author.Needs.{needs}
+use Rattle.monitor_reading.proofs.in_one.Statement.{statement}
+use Rattle.monitor_reading.proofs.in_one.Tie as tie
+
+enum-told : tie.Need-enum-told
+enum-told c = search needs
+
+enum-told-2 : tie.Need-enum-told-2
+enum-told-2 c = search needs
+
+enum-known-r : tie.Need-enum-known-r
+enum-known-r c = search needs
+
+cast-result : tie.Need-cast-result
+cast-result c = search needs
+
+add-result : tie.Need-add-result
+add-result c = search needs
+
+cast-result-2 : tie.Need-cast-result-2
+cast-result-2 c = search needs
+
+returns : tie.Need-returns
+returns c = search needs
+
+returns-2 : tie.Need-returns-2
+returns-2 c = search needs
+
+returns-3 : tie.Need-returns-3
+returns-3 c = rw (c .before .r .given .1)
+
+pub in-one-spec : {M : Type 1} → statement M
+in-one-spec =
+    tie.close
+    (tie.spec
+    enum-told
+    enum-told-2
+    enum-known-r
+    cast-result
+    add-result
+    cast-result-2
+    returns
+    returns-2
+    returns-3)

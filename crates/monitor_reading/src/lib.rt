@@ -1,0 +1,62 @@
+// The reading of where an address lies, and what a reading says.
+ghost use mathlib.Core.Path.{_≡_};
+ghost use Rattle.plain.specs.Answers.{readingOf};
+ghost use Rattle.plain.specs.ShadowCalls.{isDamaged, isFirst, inOne, lengthOf};
+ghost use Rattle.monitor_read_laws.specs.Asked.{There, readingAt};
+use monitor_base::Located;
+use plain::Reading;
+
+// By positions: in the heap, in the stack, or nothing outside both.
+pub fn reading(heap: &[u8], primary: &[u8], secondary: &[u8], l: Located) -> Reading
+    requires { ⌜ There l (now heap) (now primary) (now secondary) ⌝ }
+    ensures { λ r. ⌜ readingOf r ≡ readingAt l (now (heap .entry)) (now (primary .entry)) (now (secondary .entry)) ⌝ }
+{
+    match l {
+        Located::Heap(p) => heap_read::read(heap, p),
+        Located::Stack(p) => stack_read::read(primary, secondary, p),
+        Located::Outside => Reading::Nothing,
+    }
+}
+
+pub fn damaged(r: Reading) -> bool
+    ensures { λ t. ⌜ t ≡ isDamaged (readingOf r) ⌝ }
+{
+    match r {
+        Reading::Damaged => true,
+        Reading::Nothing => false,
+        Reading::Block(_, _, _, _) => false,
+    }
+}
+
+// Whether it is of a block's first byte.
+pub fn first(r: Reading) -> bool
+    ensures { λ t. ⌜ t ≡ isFirst (readingOf r) ⌝ }
+{
+    match r {
+        Reading::Damaged => false,
+        Reading::Nothing => false,
+        Reading::Block(_, _, offset, _) => offset == 0,
+    }
+}
+
+// The length of its block; 0 where it gives none.
+pub fn length_of(r: Reading) -> u32
+    ensures { λ n. ⌜ n ≡ lengthOf (readingOf r) ⌝ }
+{
+    match r {
+        Reading::Nothing => 0,
+        Reading::Damaged => 0,
+        Reading::Block(_, length, _, _) => length,
+    }
+}
+
+// Whether n bytes lie in one block, by the reading of the first. The sum is taken in 64 bits, where it cannot wrap.
+pub fn in_one(r: Reading, n: u32) -> bool
+    ensures { λ t. ⌜ t ≡ inOne n (readingOf r) ⌝ }
+{
+    match r {
+        Reading::Damaged => false,
+        Reading::Nothing => false,
+        Reading::Block(_, length, offset, _) => offset as u64 + n as u64 <= length as u64,
+    }
+}

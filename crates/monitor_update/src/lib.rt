@@ -1,0 +1,38 @@
+// Any call that writes.
+ghost use mathlib.Core.Path.{_≡_};
+ghost use Rattle.monitor_base.specs.Answers.{outcome, updateOf};
+ghost use Rattle.monitor_base.specs.Calls.{call};
+use map::Map;
+use monitor_base::Answer;
+use monitor_base::Update;
+use monitor_clear::clear;
+use monitor_free::free;
+use monitor_record::record;
+use monitor_record::record_written;
+use monitor_written::written;
+
+pub fn update_step(
+    update: Update,
+    map: Map,
+    heap: &mut [u8],
+    primary: &mut [u8],
+    secondary: &mut [u8],
+) -> Answer
+    ensures { λ r. ⌜ outcome r (now (heap .exit)) (now (primary .exit)) (now (secondary .exit))
+        ≡ call map (updateOf update) (now (heap .entry), (now (primary .entry), now (secondary .entry))) ⌝ }
+{
+    match update {
+        Update::Clear => clear(map, heap, primary, secondary),
+        Update::Record(base, length) => record(map, heap, primary, secondary, base, length),
+        Update::RecordWritten(base, length) => record_written(
+            map,
+            heap,
+            primary,
+            secondary,
+            base,
+            length,
+        ),
+        Update::Free(base) => free(map, heap, primary, secondary, base),
+        Update::Written(a, n) => written(map, heap, primary, secondary, a, n),
+    }
+}

@@ -1,0 +1,124 @@
+// Whether bytes lie in one block with another: two readings in the areas that they lie in, and an answer.
+ghost use mathlib.Core.Path.{_≡_};
+ghost use mathlib.Core.Bool.{true};
+ghost use Prim.Native.Nat.{ℕ, _<_};
+ghost use lib.ListN.{length};
+ghost use Rattle.number.specs.Parts.{at};
+ghost use Rattle.map.specs.Map.{goodMap};
+ghost use Rattle.plain.specs.Areas.{mapRules};
+ghost use Rattle.plain.specs.Call as plain;
+ghost use Rattle.plain.specs.Lift.{readingUp};
+ghost use Rattle.plain.specs.Ops.{readAny};
+ghost use Rattle.plain.specs.Reading.{nothing};
+ghost use Rattle.heap_layout.specs.Reading.{heapReading};
+ghost use Rattle.stack_layout.specs.Reading.{stackReading};
+ghost use Rattle.shadows.specs.Shadows.{lengthsFit, shadowOps};
+ghost use Rattle.monitor_base.specs.Answers.{answerOf, outcome};
+ghost use Rattle.monitor_base.specs.Calls.{call};
+ghost use Rattle.monitor_read_laws.specs.Asked.{validAnswer};
+use map::Address;
+use map::Map;
+use map::Position;
+use monitor_base::Answer;
+use monitor_base::Located;
+use monitor_base::guard;
+use monitor_base::locating::locate;
+use plain::Reading;
+
+// What valid answers where the first of n bytes lies in the heap.
+fn valid_heap(
+    map: Map,
+    heap: &[u8],
+    primary: &[u8],
+    secondary: &[u8],
+    p: Position,
+    n: u32,
+    from: Address,
+) -> Answer
+    requires { ⌜ (goodMap map ≡ true) × (lengthsFit map (now heap, (now primary, now secondary)) ≡ true) × (p .0 < length (now heap)) ⌝ }
+    ensures { λ r. ⌜ answerOf r ≡ validAnswer n (readingUp (map .«heap_start») (heapReading 4 8 (length (now (heap .entry))) (at (now (heap .entry))) (p .0)))
+        (readAny (mapRules map) (shadowOps map) (now (heap .entry), (now (primary .entry), now (secondary .entry))) (from .0)) ⌝ }
+{
+    let first = heap_read::read(heap, p);
+    match locate(map, from) {
+        Located::Heap(q) => {
+            if q.0 == p.0 {
+                return monitor_yes_no::judged(first, n, first);
+            }
+            monitor_yes_no::judged(first, n, heap_read::read(heap, q))
+        }
+        Located::Stack(q) => monitor_yes_no::apart(first, stack_read::read(primary, secondary, q)),
+        Located::Outside => monitor_yes_no::apart(first, Reading::Nothing),
+    }
+}
+
+// What valid answers where the first of n bytes lies in the stack.
+fn valid_stack(
+    map: Map,
+    heap: &[u8],
+    primary: &[u8],
+    secondary: &[u8],
+    p: Position,
+    n: u32,
+    from: Address,
+) -> Answer
+    requires { ⌜ (goodMap map ≡ true) × (lengthsFit map (now heap, (now primary, now secondary)) ≡ true) × (p .0 < length (now primary)) ⌝ }
+    ensures { λ r. ⌜ answerOf r
+        ≡ validAnswer n (readingUp (map .«stack_start») (stackReading (length (now (primary .entry))) (at (now (primary .entry))) (at (now (secondary .entry))) (p .0)))
+        (readAny (mapRules map) (shadowOps map) (now (heap .entry), (now (primary .entry), now (secondary .entry))) (from .0)) ⌝ }
+{
+    let first = stack_read::read(primary, secondary, p);
+    match locate(map, from) {
+        Located::Stack(q) => {
+            if q.0 == p.0 {
+                return monitor_yes_no::judged(first, n, first);
+            }
+            monitor_yes_no::judged(first, n, stack_read::read(primary, secondary, q))
+        }
+        Located::Heap(q) => monitor_yes_no::apart(first, heap_read::read(heap, q)),
+        Located::Outside => monitor_yes_no::apart(first, Reading::Nothing),
+    }
+}
+
+// What valid answers where the first of n bytes lies in neither area: n plays no part.
+fn valid_outside(map: Map, heap: &[u8], primary: &[u8], secondary: &[u8], from: Address) -> Answer
+    requires { ⌜ (goodMap map ≡ true) × (lengthsFit map (now heap, (now primary, now secondary)) ≡ true) ⌝ }
+    ensures { λ r. ⌜ ((n : ℕ) → answerOf r ≡ validAnswer n nothing
+        (readAny (mapRules map) (shadowOps map) (now (heap .entry), (now (primary .entry), now (secondary .entry))) (from .0))) ⌝ }
+{
+    match locate(map, from) {
+        Located::Heap(q) => monitor_yes_no::apart(Reading::Nothing, heap_read::read(heap, q)),
+        Located::Stack(q) => monitor_yes_no::apart(
+            Reading::Nothing,
+            stack_read::read(primary, secondary, q),
+        ),
+        Located::Outside => monitor_yes_no::yes_no(false),
+    }
+}
+
+// Whether n bytes and the byte at from lie in one block: 1 or 0. Both readings count; where they are one it is taken once.
+pub fn valid(
+    map: Map,
+    heap: &[u8],
+    primary: &[u8],
+    secondary: &[u8],
+    a: Address,
+    n: u32,
+    from: Address,
+) -> Answer
+    ensures { λ r. ⌜ outcome r (now (heap .entry)) (now (primary .entry)) (now (secondary .entry))
+        ≡ call map (plain.valid (a .0) n (from .0)) (now (heap .entry), (now (primary .entry), now (secondary .entry))) ⌝ }
+{
+    let k = guard::checked(map, heap.len(), primary.len(), secondary.len());
+    if k != 0 {
+        return guard::refusal(k);
+    }
+    if n == 0 {
+        return guard::refusal(3);
+    }
+    match locate(map, a) {
+        Located::Heap(p) => valid_heap(map, heap, primary, secondary, p, n, from),
+        Located::Stack(p) => valid_stack(map, heap, primary, secondary, p, n, from),
+        Located::Outside => valid_outside(map, heap, primary, secondary, from),
+    }
+}

@@ -1,0 +1,158 @@
+-- The two areas of a good map: an address of the heap, and one of the stack, is a position of that area's shadows. Assumes nothing.
+use mathlib.Core.Path.{_≡_, refl, sym, _∙_}
+use mathlib.Core.Bool.{true, false}
+use mathlib.Core.List.{List}
+use Prim.Native.Nat.{ℕ, _+_, _-_, _%_, _≤_, _<_}
+use native.Mathlib.Omega.{arith}
+use lib.ListN.{length}
+use lib.Dec.{leb, eqb}
+use borrow.Author.Tests.{eqb-true}
+use Rattle.number.specs.Parts.{at}
+use Rattle.number.proofs.TestLaws.{Test, is-true, is-false, test, and-false-r, false-of, cond-true}
+use Rattle.map.specs.declared.Map.{Map}
+use Rattle.map.specs.declared.Area.the-variants.{Heap, Stack, Outside}
+use Rattle.map.specs.Map.{goodMap, within, areaOf}
+use Rattle.map.proofs.MapLaws.{Good, good-true, within-true, true-within}
+use Rattle.plain.specs.Rules.{Rules}
+use Rattle.plain.specs.Areas.{heapRules, stackRules, mapRules}
+use Rattle.plain.specs.Reading.{Reading, nothing, block, damaged}
+use Rattle.plain.specs.Ops.{readAny}
+use Rattle.plain.specs.ShadowCalls.{lengthOf}
+use Rattle.plain.proofs.AreaLaws.{heap-shifted, heap-unshifted, stack-shifted, stack-unshifted}
+use Rattle.heap_layout.specs.Reading.{heapReading}
+use Rattle.heap_layout.specs.Ops.{heapOps}
+use Rattle.heap_layout.proofs.ReadingLaws as heap
+use Rattle.stack_layout.specs.Reading.{stackReading}
+use Rattle.stack_layout.specs.Ops.{StackShadows, stackOps}
+use Rattle.stack_layout.proofs.ReadingLaws as stack
+use Rattle.shadows.specs.Shadows.{Shadows, lengthsFit, shadowOps}
+use Rattle.shadows.proofs.ShadowLaws.{Fit, fit-true}
+use Rattle.monitor_write_laws.specs.AreaCalls.{freeRefusal}
+use Rattle.monitor_base.proofs.LocatingLaws.{area-heap, area-stack, area-out, heap-room, stack-room}
+use Rattle.monitor_write_laws.proofs.AtLaws.{fits-same, aligned-same, range-at, At}
+
+-- ---- a position of an area is read as its layout reads it
+
+pub heap-reads : (h : List ℕ) (p : ℕ) → p < length h
+    → (heapRules 8 0 (length h) .inside p ≡ true) × (readAny (heapRules 8 0 (length h)) (heapOps 4 8 (length h)) h p ≡ heapReading 4 8 (length h) (at h) p)
+unfolding readAny
+heap-reads h p k = let w = true-within 0 (length h) p (omega arith) (omega arith) in (w, cond-true _ _ _ w)
+
+pub stack-reads : (s : StackShadows) (p : ℕ) → p < length (s .0)
+    → (stackRules 0 (length (s .0)) .inside p ≡ true)
+    × (readAny (stackRules 0 (length (s .0))) (stackOps (length (s .0))) s p ≡ stackReading (length (s .0)) (at (s .0)) (at (s .1)) p)
+unfolding readAny
+stack-reads s p k = let w = true-within 0 (length (s .0)) p (omega arith) (omega arith) in (w, cond-true _ _ _ w)
+
+-- ---- a block that is read lies in its area
+
+-- the block that a free is asked for
+first : (r : Reading) (P : ℕ → Type 0) → ((b l w : ℕ) → r ≡ block b l 0 w → P l) → freeRefusal r ≡ 0 → P (lengthOf r)
+first nothing P f e = absurd (omega arith)
+first damaged P f e = absurd (omega arith)
+first (block b l o w) P f e = go (test (eqb o 0))
+  where
+    go : Test (eqb o 0) → P l
+    go (is-true t) = f b l w (rw (eqb-true o 0 t))
+    go (is-false t) = absurd (omega (arith, rw t at e))
+
+module _ (size : ℕ) (f : ℕ → ℕ) (p : ℕ) where
+  pub heap-first : (l : ℕ) → l ≡ lengthOf (heapReading 4 8 size f p) → freeRefusal (heapReading 4 8 size f p) ≡ 0
+      → (8 ≤ p) × (p % 8 ≡ 0) × (p + l ≤ size) × (1 ≤ l)
+  heap-first l q e =
+      rw q
+      (first (heapReading 4 8 size f p) (λ l. (8 ≤ p) × (p % 8 ≡ 0) × (p + l ≤ size) × (1 ≤ l))
+      (λ b l w h.
+      let t = heap.reading-told 4 8 size f p b l 0 w h in
+      let q : p ≡ b = omega arith in
+      (omega arith, rw q (t .aligned), omega arith, t .some))
+      e)
+
+module _ (size : ℕ) (f g : ℕ → ℕ) (p : ℕ) where
+  pub stack-first : (l : ℕ) → l ≡ lengthOf (stackReading size f g p) → freeRefusal (stackReading size f g p) ≡ 0 → p + l ≤ size
+  stack-first l q e =
+      rw q
+      (first (stackReading size f g p) (λ l. p + l ≤ size)
+      (λ b l w h. let t = stack.reading-told size f g p b l 0 w h in omega arith) e)
+
+-- ---- an address of neither area
+
+pub out-fits : (m : Map) (a l : ℕ) → areaOf m a ≡ Outside → mapRules m .fits a l ≡ false
+out-fits m a l e = let v = area-out m a e in rw (v .0) (and-false-r (leb (a + l) (m .«stack_start» + m .«stack_size»)) _ (v .1))
+
+-- ---- a good map, and shadows of the right lengths
+
+module _ (m : Map) (s : Shadows) (ok : goodMap m ≡ true) (fit : lengthsFit m s ≡ true) (a p : ℕ) where
+  abbrev hs : ℕ
+  hs = m .«heap_start»
+
+  abbrev hz : ℕ
+  hz = m .«heap_size»
+
+  abbrev ss : ℕ
+  ss = m .«stack_start»
+
+  abbrev sz : ℕ
+  sz = m .«stack_size»
+
+  good : Good m
+  good = good-true m ok
+
+  lengths : Fit m s
+  lengths = fit-true m s fit
+
+  abbrev H : Rules
+  H = heapRules 8 hs hz
+
+  whole-fits : within hs hz a ≡ true → (l : ℕ) → mapRules m .fits a l ≡ H .fits a l
+  whole-fits w l = cond-true (within hs hz a) (H .fits a l) (stackRules ss sz .fits a l) w
+
+  pub heap-at : areaOf m a ≡ Heap → p ≡ a - hs
+      → At (mapRules m) (shadowOps m) s a (heapRules 8 0 (length (s .0))) (heapOps 4 8 (length (s .0))) (s .0) p (λ h. (h, s .1))
+  heap-at e q =
+      let w : within hs hz a ≡ true = area-heap m a e in
+      let f = within-true hs hz a w in
+      let down = heap-shifted 8 hs hz (good .heapStart8) in
+      let up = heap-unshifted 8 hs hz (good .heapStart8) in
+      rw (lengths .0)
+      (record {
+        start = hs;
+        whole = refl;
+        inside = rw w;
+        inside-there = true-within 0 hz p (omega arith) (omega arith);
+        fits = λ l. whole-fits w l ∙ fits-same hs H (heapRules 8 0 hz) down up a l p (f .0) q;
+        aligned = λ l h. rw w (aligned-same hs H (heapRules 8 0 hz) down up a l p (f .0) q (sym (whole-fits w l) ∙ h));
+        read = rw (w, q);
+        vacant = λ l. rw (w, q);
+        stamp = λ t l. rw (w, q);
+        erase = λ l. rw (w, q);
+        mark = λ n i.
+            let room = heap-room hz (at (s .0)) p n i in
+            rw q
+            (range-at (shadowOps m) (heapOps 4 8 hz) (λ h. (h, s .1)) hs n a (s .0) (f .0)
+            (λ b x y z. rw (true-within hs hz b (omega arith) (omega arith))));
+      })
+
+  pub stack-at : areaOf m a ≡ Stack → p ≡ a - ss
+      → At (mapRules m) (shadowOps m) s a (stackRules 0 (length (s .1 .0))) (stackOps (length (s .1 .0))) (s .1) p (λ t. (s .0, t))
+  stack-at e q =
+      let v = area-stack m a e in
+      let f = within-true ss sz a (v .1) in
+      rw (lengths .1 .0)
+      (record {
+        start = ss;
+        whole = refl;
+        inside = rw (v .0, v .1);
+        inside-there = true-within 0 sz p (omega arith) (omega arith);
+        fits = λ l. rw (v .0) (fits-same ss (stackRules ss sz) (stackRules 0 sz) (stack-shifted ss sz) (stack-unshifted ss sz) a l p (f .0) q);
+        aligned = λ l h. rw (v .0);
+        read = rw (v .0, q);
+        vacant = λ l. rw (v .0, q);
+        stamp = λ t l. rw (v .0, q);
+        erase = λ l. rw (v .0, q);
+        mark = λ n i.
+            let room = stack-room sz (at (s .1 .0)) (at (s .1 .1)) p n i in
+            rw q
+            (range-at (shadowOps m) (stackOps sz) (λ t. (s .0, t)) ss n a (s .1) (f .0)
+            (λ b x y z. rw (false-of (within hs hz b) (λ h. let k = within-true hs hz b h in good .noShare (omega arith) (omega arith)))));
+      })

@@ -1,0 +1,52 @@
+use denote.Ref.{now}
+use Rattle.number.specs.Little.{bytesOf}
+use Rattle.number.proofs.LittleLaws.{set4}
+use borrow.Author.Needs.{needs}
+use Rattle.number_words.proofs.put_number.Statement.{statement}
+use Rattle.number_words.proofs.put_number.Tie as tie
+
+cast-bytes : tie.Need-cast-bytes
+cast-bytes c = search needs
+
+slice-write-bytes : tie.Need-slice-write-bytes
+slice-write-bytes c = search needs
+
+cast-bytes-2 : tie.Need-cast-bytes-2
+cast-bytes-2 c = search needs
+
+slice-write-bytes-2 : tie.Need-slice-write-bytes-2
+slice-write-bytes-2 c = search needs
+
+cast-bytes-3 : tie.Need-cast-bytes-3
+cast-bytes-3 c = search needs
+
+slice-write-bytes-3 : tie.Need-slice-write-bytes-3
+slice-write-bytes-3 c = search needs
+
+cast-bytes-4 : tie.Need-cast-bytes-4
+cast-bytes-4 c = search needs
+
+slice-write-bytes-4 : tie.Need-slice-write-bytes-4
+slice-write-bytes-4 c = search needs
+
+same-length : tie.Need-same-length
+same-length c = search needs
+
+returns : tie.Need-returns
+unfolding bytesOf
+returns c = set4 (now (c .args .bytes)) _ _ _ _ (c .pre)
+
+pub put-number-spec : {M : Type 1} → statement M
+put-number-spec =
+    tie.close
+    (tie.spec
+    cast-bytes
+    slice-write-bytes
+    cast-bytes-2
+    slice-write-bytes-2
+    cast-bytes-3
+    slice-write-bytes-3
+    cast-bytes-4
+    slice-write-bytes-4
+    same-length
+    returns)

@@ -1,0 +1,131 @@
+-- What is promised of the library and of the calls program, every statement on one page, in the order of document 01 and of the requests.
+-- `proofs/Promises.antt` proves this one type. `call m c s` is the shadows after a call and its answer, for any map m, call c and shadows s; that
+-- each function of `monitor` gives what `call` says is its contract. Each name below is a statement of a few lines: those of the library stand in
+-- crates/demands/specs, in the file that the group names, those of the calls program in crates/calls_format/specs and calls_file/specs. Assumes
+-- nothing.
+use Rattle.demands.specs.Demand1.{RefusedAltersNothing, QuestionsAlterNothing, ByTheTable, AcceptedExactly, LowestWins, ItsRowHolds, SevenWithoutEight, EightOnlyThere, EightThere}
+use Rattle.demands.specs.Good.{GoodExactly, LengthsExactly, AreasExactly}
+use Rattle.demands.specs.Alters.{LengthsKept, ZeroExactly, RecordStamps, BytesStart, FreeZeroes, WrittenMarks}
+use Rattle.demands.specs.Told.{AnswersRead, TotalsTold, BlocksRead}
+use Rattle.demands.specs.Demand2.{AskReads, NineBytes, ImageShape, RestZero, OneImage, AuditAccepts, AuditOnly, AuditRefuses, ReadBack, MadeOf}
+use Rattle.demands.specs.Demand3.{RunsEachCall, WholeRun, NoDamage, ClearedRun, OnEveryImage, StaysPlaced}
+use Rattle.demands.specs.Begun.{AnswersOfRecord, RecordThenWritten, ListThenWritten, ListStarts}
+use Rattle.demands.specs.Null.{NullOutside, NoBlockAtNull, FreeOfNull, FreeOutside}
+use Rattle.demands.specs.Samples.{SamplesHold}
+use Rattle.demands.specs.MapSamples.{MapSamplesHold}
+use Rattle.demands.specs.DamageSamples.{DamageSamplesHold}
+use Rattle.calls_format.specs.Running.{SameRun, NeverDamaged}
+use Rattle.calls_format.specs.NewMapSamples.{NewMapSamplesHold}
+use Rattle.calls_file.specs.File.{WholeFile}
+
+pub record Promises : Type 0 where
+  -- ---- Demand 1: every call, on every input (Demand1.antt; the table of refusals is Numbers.antt)
+
+  -- a refusal returns the number with all other fields zero and alters no shadow byte
+  pub refused-alters-nothing : RefusedAltersNothing
+  -- a question alters no shadow byte
+  pub questions-alter-nothing : QuestionsAlterNothing
+  -- every call leaves each shadow as long as it was (Alters.antt)
+  pub lengths-kept : LengthsKept
+  -- where they are accepted, record alters the bytes of the place alone, free zeroes them, and written changes written bits alone
+  pub record-stamps : RecordStamps
+  pub free-zeroes : FreeZeroes
+  pub written-marks : WrittenMarks
+  -- record: all bytes start unwritten; S-1: a block whose bytes all count as written
+  pub bytes-start : BytesStart
+  -- every field that an accepted call answers, out of readings and written bits, on any shadows (Told.antt)
+  pub answers-read : AnswersRead
+  -- a map that keeps the rules is good, and no other (Good.antt)
+  pub good-exactly : GoodExactly
+  -- heap shadow (heap size bytes), primary and secondary (stack size bytes each): right lengths are these
+  pub lengths-exactly : LengthsExactly
+  -- an address lies in an area exactly if it is one of the size addresses from its start on
+  pub areas-exactly : AreasExactly
+  -- what row 6 goes by: every shadow byte of the place is zero (Alters.antt)
+  pub zero-exactly : ZeroExactly
+  -- the number is that of the first row of the table that holds
+  pub by-the-table : ByTheTable
+  -- accepted, with number 0, exactly if no row holds
+  pub accepted-exactly : AcceptedExactly
+  -- the lowest number wins
+  pub lowest-wins : LowestWins
+  -- a number other than 0 is that of a row that holds
+  pub its-row-holds : ItsRowHolds
+  -- 7 never where 8 holds
+  pub seven-without-eight : SevenWithoutEight
+  -- damage is reported by number 8: nothing else is, and it always is where no lower number comes first
+  pub eight-only-there : EightOnlyThere
+  pub eight-there : EightThere
+  -- ---- Demand 2: readings, images, audit, the list read back (Demand2.antt)
+
+  -- readings follow the encodings, for all bytes
+  pub ask-reads : AskReads
+  -- a block that is read, on any shadows, holds the address at its offset, fits its area, and has the address's written bit (Told.antt)
+  pub blocks-read : BlocksRead
+  -- on nine bytes at most
+  pub nine-bytes : NineBytes
+  -- an image has the lengths of the areas, and bytes below 256
+  pub image-shape : ImageShape
+  -- bytes 5 to 7 of a segment, and the secondary bytes that hold no length and no offset, are zero
+  pub rest-zero : RestZero
+  -- each placeable list of blocks has one image, and no other list has the same
+  pub one-image : OneImage
+  -- audit accepts exactly the images, with the list's totals: it accepts each, it accepts nothing else, and what is no image gets 8
+  pub audit-accepts : AuditAccepts
+  pub audit-only : AuditOnly
+  pub audit-refuses : AuditRefuses
+  -- heap blocks, stack blocks, live bytes, written bytes: audit's totals are those of what ask answers, address by address (Told.antt)
+  pub totals-told : TotalsTold
+  -- the list read back is the list it was made of, and accepted shadows are the image of the list read back from them
+  pub read-back : ReadBack
+  pub made-of : MadeOf
+  -- on the image of every placeable list, reached by calls or not, every call answers and leaves what the list does (Demand3.antt)
+  pub on-every-image : OnEveryImage
+  -- ---- Demand 3: whole lists of calls (Demand3.antt)
+
+  -- a run is one call after another, each on what the one before left
+  pub runs-each-call : RunsEachCall
+  -- from cleared shadows, the number, every answer field and, after each call, every shadow byte are the plain list's
+  pub whole-run : WholeRun
+  -- damage is never reported
+  pub no-damage : NoDamage
+  -- clear makes shadows cleared ones, whatever they held
+  pub cleared-run : ClearedRun
+  -- the live blocks stay placed after every call
+  pub stays-placed : StaysPlaced
+  -- ---- S-1: a block whose bytes all count as written (Begun.antt)
+
+  -- its answers are those of record
+  pub answers-of-record : AnswersOfRecord
+  -- it leaves what record and then written of the whole block leave, on any shadows and on the plain list
+  pub record-then-written : RecordThenWritten
+  pub list-then-written : ListThenWritten
+  -- on the plain list, the block joins with base and length, no byte written, or every byte
+  pub list-starts : ListStarts
+  -- ---- S-2: free of address 0 (Null.antt)
+
+  -- a good map keeps address 0 out of both areas, and no block is ever there
+  pub null-outside : NullOutside
+  pub no-block-at-null : NoBlockAtNull
+  -- it is accepted, after 1 and 2, and alters no byte
+  pub free-of-null : FreeOfNull
+  -- every other address outside both areas is still 4
+  pub free-outside : FreeOutside
+  -- ---- samples (Samples.antt, MapSamples.antt, DamageSamples.antt, ByteSamples.antt)
+
+  -- the marked samples, the worked example, edges, blocks that begin written, and numbers above 255
+  pub samples-hold : SamplesHold
+  -- each rule of a map broken alone and at its edge, and each length of a shadow
+  pub map-samples-hold : MapSamplesHold
+  -- each clause of "damaged if", every byte of the numbers, what each call makes of damage, and bytes that do not agree
+  pub damage-samples-hold : DamageSamplesHold
+  -- ---- the calls program (calls_format, Running.antt and NewMapSamples.antt; calls_file, File.antt)
+
+  -- for every list of requests, maps among them: the answers, the map and every shadow byte after each are those of the plain list
+  pub same-run : SameRun
+  -- and none of the answers is 8
+  pub never-damaged : NeverDamaged
+  -- whatever the reads bring, and wherever they end: all that goes to the output is what the file prints
+  pub whole-file : WholeFile
+  -- samples: which maps it takes, at the edges of its sizes
+  pub new-map-samples-hold : NewMapSamplesHold

@@ -1,7 +1,0 @@
-pub mod TallyLaws
-pub mod WalkLaws
-pub mod LoopLaws
-pub mod RunLaws
-pub mod KnownLaws
-pub mod PassedLaws
-pub mod TurnLaws

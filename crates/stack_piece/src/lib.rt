@@ -1,0 +1,31 @@
+// Clauses of a stack reading: what can stand in a piece, and whether the block found fits the area.
+use map::Position;
+use plain::Reading;
+ghost use mathlib.Core.Path.{_≡_};
+ghost use Prim.Native.Nat.{_<_, _≤_};
+ghost use Rattle.plain.specs.Answers.{readingOf};
+ghost use Rattle.stack_layout.specs.Reading.{fitted, badPiece};
+
+// Position p is byte i of a block of length len: damaged where that block does not fit the area.
+pub fn fit(size: usize, p: Position, len: u32, i: u32, written: u8) -> Reading
+    requires { ⌜ (size ≤ 65536) × (p .0 < size) ⌝ }
+    ensures { λ r. ⌜ readingOf r ≡ fitted size (p .0) len i written ⌝ }
+{
+    let Position(at) = p;
+    let offset = i as usize;
+    if at < offset {
+        return Reading::Damaged;
+    }
+    if size + offset < at + (len as usize) {
+        return Reading::Damaged;
+    }
+    Reading::Block(Position(at - offset), len, i, written)
+}
+
+// Length len and piece offset o cannot stand in a piece that has a byte j. In u64, where no sum wraps.
+pub fn bad_piece(len: u64, o: u64, j: u64) -> bool
+    requires { ⌜ (o < 4294967296) × (j < 15) ⌝ }
+    ensures { λ r. ⌜ r ≡ badPiece len o j ⌝ }
+{
+    (len < 9) | (o % 8 != 0) | (len < o + 8) | ((7 < j) & (o + 16 <= len)) | (len <= o + j)
+}

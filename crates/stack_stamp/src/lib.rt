@@ -1,0 +1,73 @@
+// A stack block as it begins, stamped into its place: codes in the primary, length and offset of each piece in the secondary.
+use map::Position;
+use stack_table::codes_below;
+ghost use mathlib.Core.Path.{_≡_};
+ghost use mathlib.Core.Bool.{true};
+ghost use Prim.Native.Nat.{_+_, _≤_, _-_};
+ghost use lib.ListN.{length};
+ghost use Rattle.number.specs.Bits.{bit};
+ghost use Rattle.number.specs.Parts.{at, zeros, over};
+ghost use Rattle.plain.specs.Block.{begun};
+ghost use Rattle.stack_layout.specs.Code.{primaryOf, secondaryOf};
+ghost use Rattle.stack_layout.specs.Ops.{StackShadows, stackVacant, stackStamp};
+
+// The written bit of each byte of a block as it begins.
+fn first_mark(written: bool) -> u8
+    ensures { λ r. ⌜ (r ≡ bit written) × (r ≤ 1) ⌝ }
+{
+    if written {
+        return 1;
+    }
+    0
+}
+
+// The primary bytes, each with this written bit: the codes of a short block climb from its first, those of each piece from 48.
+// The pieces before the last have eight bytes, the last takes the remainder.
+fn stamp_primary(primary: &mut [u8], base: Position, len: u32, mark: u8)
+    requires { ⌜ (base .0 + len ≤ length (now primary)) × (length (now primary) ≤ 65536) × (1 ≤ len) × (mark ≤ 1) ⌝ }
+    ensures { λ _. ⌜ now (primary .exit) ≡ over (base .0) len (λ q. primaryOf len (q - base .0) mark) (now (primary .entry)) ⌝ }
+{
+    if len <= 8 {
+        let first = 4 * (codes_below(len) + 1);
+        stack_climb::climb_at(primary, base, len as usize, first as u8 + mark);
+        return;
+    }
+    let Position(b) = base;
+    let mut o: u32 = 0;
+    while o + 16 <= len {
+        let q = b + (o as usize);
+        stack_climb::climb_at(primary, Position(q), 8, 192 + mark);
+        o += 8;
+    }
+    let last = b + (o as usize);
+    stack_climb::climb_at(primary, Position(last), (len - o) as usize, 192 + mark);
+}
+
+// The secondary bytes, in a place where they are zero: each piece of a long block begins with the length and its own offset.
+fn stamp_secondary(secondary: &mut [u8], base: Position, len: u32)
+    requires { ⌜ (base .0 + len ≤ length (now secondary)) × (length (now secondary) ≤ 65536) × (zeros (at (now secondary)) (base .0) len ≡ true) ⌝ }
+    ensures { λ _. ⌜ now (secondary .exit) ≡ over (base .0) len (λ q. secondaryOf len (q - base .0)) (now (secondary .entry)) ⌝ }
+{
+    if len <= 8 {
+        return;
+    }
+    let Position(b) = base;
+    let mut o: u32 = 0;
+    while o + 8 <= len {
+        let q = b + (o as usize);
+        number_words::put_at(secondary, q, len);
+        number_words::put_at(secondary, q + 4, o);
+        o += 8;
+    }
+}
+
+// Records a block, all its bytes written or none, in a place that is vacant: secondary bytes that are to be zero stay as they are.
+pub fn stamp(primary: &mut [u8], secondary: &mut [u8], base: Position, len: u32, written: bool)
+    requires { ⌜ (base .0 + len ≤ length (now primary)) × (length (now primary) ≡ length (now secondary)) × (length (now primary) ≤ 65536) × (1 ≤ len)
+        × (stackVacant (now primary, now secondary) (base .0) len ≡ true) ⌝ }
+    ensures { λ _. ⌜ _≡_ {A = StackShadows} (now (primary .exit), now (secondary .exit))
+        (stackStamp (now (primary .entry), now (secondary .entry)) (begun written (base .0) len)) ⌝ }
+{
+    stamp_primary(primary, base, len, first_mark(written));
+    stamp_secondary(secondary, base, len);
+}
