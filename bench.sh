@@ -1,5 +1,5 @@
 #!/usr/bin/env bash
-# Times the linked library beside its peers and prints the tables; needs rt, cargo and a C compiler.
+# Times the linked libraries beside their peers and prints the tables; needs rt, cargo and a C compiler.
 #   ./bench.sh                         about two minutes
 #   ./bench.sh --quick                 fewer rounds
 #   ./bench.sh --before BUILD          sets an earlier build beside this one, in the same program: a commit, or the archive of one
@@ -22,7 +22,9 @@ while [ $# -gt 0 ]; do
   shift
 done
 
-rt staticlib monitor_c > "$out/staticlib.log" 2>&1 || { cat "$out/staticlib.log"; exit 1; }
+for crate in monitor_c origins_c; do
+  rt staticlib "$crate" > "$out/staticlib.log" 2>&1 || { cat "$out/staticlib.log"; exit 1; }
+done
 bench/eacsl/build.sh "$out"
 unset BENCH_BEFORE
 if [ -n "$before" ]; then

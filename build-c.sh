@@ -1,16 +1,24 @@
 #!/usr/bin/env bash
-# Builds the library for C programs, proved before it is built, and says where it and its header are.
+# Builds the libraries for C programs, of the plain form and of the form with origins, proved before they are built, and says where they and
+# their headers are.
 set -euo pipefail
 cd "$(dirname "$0")"
-echo "proving and building the library; the first time, with every crate below it, this takes minutes" >&2
-if ! log=$(rt staticlib monitor_c 2>&1); then
-    printf '%s\n' "$log" >&2
-    echo "build-c.sh: the library was not built" >&2
-    exit 1
-fi
+echo "proving and building the libraries; the first time, with every crate below them, this takes minutes" >&2
+for crate in monitor_c origins_c; do
+    if ! log=$(rt staticlib "$crate" 2>&1); then
+        printf '%s\n' "$log" >&2
+        echo "build-c.sh: the library $crate was not built" >&2
+        exit 1
+    fi
+done
 cat <<END
-library: $PWD/target/staticlib/libmonitor_c.a
-header:  $PWD/include/block_monitor.h
-compile: cc -std=c99 -I$PWD/include program.c $PWD/target/staticlib/libmonitor_c.a
-guide:   $PWD/docs/C-INTERFACE.md
+plain form
+  library: $PWD/target/staticlib/libmonitor_c.a
+  header:  $PWD/include/block_monitor.h
+  compile: cc -std=c99 -I$PWD/include program.c $PWD/target/staticlib/libmonitor_c.a
+form with origins
+  library: $PWD/target/staticlib/liborigins_c.a
+  header:  $PWD/include/block_monitor_origins.h
+  compile: cc -std=c99 -I$PWD/include program.c $PWD/target/staticlib/liborigins_c.a
+guide:     $PWD/docs/C-INTERFACE.md
 END

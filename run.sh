@@ -1,6 +1,7 @@
 #!/usr/bin/env bash
-# Builds the calls program and shows a run of it, input and output side by side in words: the worked example of the specification,
-# or the calls of the file that is named (text if its name ends in .txt, else a calls file).
+# Builds a calls program and shows a run of it, input and output side by side in words: the worked example of the specification,
+# or the calls of the file that is named (text if its name ends in .txt, else a calls file). The program is `calls`, or `calls_origins`
+# for the form with origins, which a text says by its first line and a calls file is told to be by --origins.
 set -euo pipefail
 
 here=$(cd "$(dirname "${BASH_SOURCE[0]}")" && pwd)
@@ -15,7 +16,13 @@ calls_text() {
     cargo run --quiet --release --offline --manifest-path "$here/calls_text/Cargo.toml" -- "$@"
 }
 
-usage='./run.sh [FILE]   a file of calls: text if its name ends in .txt, else a calls file; without one, the worked example'
+usage='./run.sh [[--origins] FILE]   a file of calls: text if its name ends in .txt, else a calls file; without one, the worked example;
+                              --origins: a calls file of the form with origins (a text says so by its first line)'
+form=plain
+if [ "${1-}" = --origins ] && [ $# = 2 ]; then
+    form=origins
+    shift
+fi
 case $#:${1-} in
 0: | 1:[!-]*) input=${1:-$worked} ;;
 1:-h | 1:--help) printf '%s\n' "$usage" && exit ;;
@@ -31,18 +38,27 @@ trap 'rm -rf "$room"' EXIT
 
 # Text is read before the program is built: a mistake in it is told at once.
 case $input in
-*.txt) calls_text encode "$input" >"$room/calls" ;;
+*.txt)
+    calls_text encode "$input" >"$room/calls"
+    form=$(calls_text form "$input")
+    ;;
 *) cp -- "$input" "$room/calls" ;;
 esac
+program=calls
+show=(show)
+if [ "$form" = origins ]; then
+    program=calls_origins
+    show=(show --origins)
+fi
 
-[ -x "$here/target/bin/calls" ] || printf 'Proving and building the calls program; the first time takes some minutes.\n' >&2
-(cd "$here" && rt check calls) >"$room/check" 2>&1 || {
+[ -x "$here/target/bin/$program" ] || printf 'Proving and building the calls program; the first time takes some minutes.\n' >&2
+(cd "$here" && rt check "$program") >"$room/check" 2>&1 || {
     cat "$room/check" >&2
-    fail "rt check calls failed"
+    fail "rt check $program failed"
 }
 
-"$here/target/bin/calls" <"$room/calls" >"$room/lines"
-calls_text show "$input" "$room/lines"
+"$here/target/bin/$program" <"$room/calls" >"$room/lines"
+calls_text "${show[@]}" "$input" "$room/lines"
 if [ "$input" = "$worked" ]; then
     cmp "$room/lines" "$here/crates/calls/stdout"
     printf '\nThe output is that of the specification (crates/calls/stdout).\n'

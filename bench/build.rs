@@ -1,5 +1,5 @@
-//! Links the archive that `rt staticlib monitor_c` writes; or, where BENCH_BEFORE names their folder, a copy of it and beside it an
-//! earlier build whose symbols begin with `before_` (before.sh).
+//! Links the archives that `rt staticlib` writes of `origins_c` and of `monitor_c`; or, where BENCH_BEFORE names their folder, a copy of the
+//! latter and beside it an earlier build whose symbols begin with `before_` (before.sh).
 
 use std::path::{Path, PathBuf};
 
@@ -15,6 +15,7 @@ fn link(archive: &Path) {
 fn main() {
     println!("cargo:rerun-if-env-changed=BENCH_BEFORE");
     let here = Path::new(env!("CARGO_MANIFEST_DIR"));
+    link(&here.join("../target/staticlib/liborigins_c.a"));
     let Some(folder) = std::env::var_os("BENCH_BEFORE").map(PathBuf::from) else {
         return link(&here.join("../target/staticlib/libmonitor_c.a"));
     };

@@ -1,11 +1,14 @@
 #!/usr/bin/env bash
-# Tests what a C program meets: the header against the exported functions, the examples of docs/C-INTERFACE.md, and the lesson, clean and with
-# each of its mistakes, against stored output. Needs target/staticlib/libmonitor_c.a (./build-c.sh). Ends with 1 at the first difference.
-# CC and CXX name other compilers than cc and c++.
+# Tests what a C program meets, in the plain form and in the form with origins: the headers against the exported functions, the examples of
+# docs/C-INTERFACE.md, and the lesson, clean and with each of its mistakes, against stored output. Needs both libraries (./build-c.sh). Ends
+# with 1 at the first difference. CC and CXX name other compilers than cc and c++.
 set -euo pipefail
 cd "$(dirname "$0")/.."
 
-library=$PWD/target/staticlib/libmonitor_c.a
+forms=(plain origins)
+declare -A crate=([plain]=monitor_c [origins]=origins_c)
+declare -A header=([plain]=block_monitor.h [origins]=block_monitor_origins.h)
+libraries=$PWD/target/staticlib
 include=$PWD/include
 out=$PWD/target/examples
 cc=${CC:-cc}
@@ -28,34 +31,43 @@ same() {
     pass
 }
 
-# One line for each exported function, as C declares it, from the library's source.
+# The library of a form.
+library() {
+    echo "$libraries/lib${crate[$1]}.a"
+}
+
+# One line for each exported function of a form, as C declares it, from the library's source.
 exported() {
-    tr '\n' ' ' <crates/monitor_c/src/lib.rt | grep -o 'pub extern "C" fn [^)]*) -> [a-z0-9]*' | sed -E '
+    tr '\n' ' ' <"crates/${crate[$1]}/src/lib.rt" | grep -o 'pub extern "C" fn [^)]*) -> [a-z0-9]*' | sed -E '
         s/ +/ /g
         s/([a-z_]+): &\[u32; ([0-9]+)\]/const uint32_t \1[\2]/g
         s/([a-z_]+): &mut \[u32; ([0-9]+)\]/uint32_t \1[\2]/g
         s/([a-z_]+): &\[u8\]/const uint8_t *\1, size_t \1_length/g
         s/([a-z_]+): &mut \[u8\]/uint8_t *\1, size_t \1_length/g
         s/([a-z_]+): u32/uint32_t \1/g
+        s/([a-z_]+): bool/bool \1/g
+        s/([a-z_]+): &mut u64/uint64_t *\1/g
         s/^pub extern "C" fn ([a-z_]+)\( ?(.*[^, ]),? ?\) -> u32$/uint32_t \1(\2);/'
 }
 
 declared() {
-    tr '\n' ' ' <"$include/block_monitor.h" | grep -o 'uint32_t block_monitor_[a-z_]*([^)]*);' | sed -E 's/ +/ /g'
+    tr '\n' ' ' <"$include/${header[$1]}" | grep -o 'uint32_t block_monitor_[a-z_]*([^)]*);' | sed -E 's/ +/ /g'
 }
 
 test_header() {
-    local count
-    exported >"$out/exported"
-    declared >"$out/declared"
-    count=$(grep -c '#\[no_mangle\]' crates/monitor_c/src/lib.rt)
-    [ "$(wc -l <"$out/exported")" -eq "$count" ] || fail "the source has $count exported functions, but not all could be read: $out/exported"
-    same "$out/exported" "$out/declared" "include/block_monitor.h against crates/monitor_c/src/lib.rt"
-    echo '#include "block_monitor.h"' >"$out/header.c"
-    "$cc" -std=c99 "${strict[@]}" -I"$include" -c "$out/header.c" -o "$out/header.o" || fail "the header is not clean C99"
+    local count source=crates/${crate[$1]}/src/lib.rt
+    exported "$1" >"$out/exported-$1"
+    declared "$1" >"$out/declared-$1"
+    count=$(grep -c '#\[no_mangle\]' "$source")
+    [ "$(wc -l <"$out/exported-$1")" -eq "$count" ] ||
+        fail "$source has $count exported functions, but not all could be read: $out/exported-$1"
+    same "$out/exported-$1" "$out/declared-$1" "include/${header[$1]} against $source"
+    echo "#include \"${header[$1]}\"" >"$out/header.c"
+    "$cc" -std=c99 "${strict[@]}" -I"$include" -c "$out/header.c" -o "$out/header.o" || fail "${header[$1]} is not clean C99"
     pass
 }
 
+# Both forms in one program.
 test_header_cpp() {
     if ! command -v "$cpp" >/dev/null; then
         echo "test-c.sh: no C++ compiler, C++ is not tested"
@@ -63,65 +75,85 @@ test_header_cpp() {
     fi
     cat >"$out/header.cpp" <<'END'
 #include "block_monitor.h"
+#include "block_monitor_origins.h"
 int main()
 {
-    static uint8_t heap[16], primary[16], secondary[16];
+    static uint8_t heap[16], primary[16], secondary[16], heap_cells[32], stack_cells[32];
     const struct block_monitor monitor = {{8, 16, 24, 16}, heap, 16, primary, 16, secondary, 16};
-    if (monitor_record_written(&monitor, 24, 4) != BLOCK_MONITOR_ACCEPTED)
+    if (monitor_record_written(&monitor, 24, 4) != BLOCK_MONITOR_ACCEPTED || monitor_clear(&monitor) != BLOCK_MONITOR_ACCEPTED)
         return 1;
-    return monitor_record(&monitor, 16, 4) == BLOCK_MONITOR_ACCEPTED ? 0 : 1;
+    struct block_monitor_origins origins = {{8, 16, 24, 16}, heap, 16, primary, 16, secondary, 16, heap_cells, 32, stack_cells, 32, 1};
+    if (monitor_origins_record(&origins, 16, 4) != BLOCK_MONITOR_ACCEPTED || origins.counter != 2)
+        return 1;
+    return monitor_origins_point(&origins, 16, 16) == BLOCK_MONITOR_ACCEPTED ? 0 : 1;
 }
 END
-    "$cpp" "${strict[@]}" -I"$include" "$out/header.cpp" "$library" -o "$out/header" || fail "the header is not clean C++"
-    "$out/header" || fail "record from C++ was refused"
+    "$cpp" "${strict[@]}" -I"$include" "$out/header.cpp" "$(library plain)" "$(library origins)" -o "$out/header" || fail "a header is not clean C++"
+    "$out/header" || fail "a call from C++ was refused"
     pass
 }
 
-# The code blocks of the page as one program: the first at file level, the others in main. Errors name the page's own lines.
+# The code blocks of the page as one program for each form, whose section parts them: the first at file level, the others in main. Errors name
+# the page's own lines.
 page_program() {
-    awk '
+    awk -v form="$1" '
+        BEGIN { here = "plain" }
+        /^## The form with origins$/ { here = "origins" }
+        here != form { next }
         /^```c$/ { inside = 1; blocks++; if (blocks == 2) print "int main(void)\n{"; print "#line " NR + 1 " \"docs/C-INTERFACE.md\""; next }
         /^```$/ { inside = 0 }
         inside
         END { print "return 0;\n}" }' docs/C-INTERFACE.md
 }
 
+# Each program is linked with both libraries: that of the form with origins uses both.
 test_page() {
-    local name
-    page_program >"$out/page.c"
+    local name page=$out/page-$1
+    page_program "$1" >"$page.c"
     while read -r name; do
-        grep -q "(${name}(" "$out/page.c" || fail "docs/C-INTERFACE.md has no example of $name"
-    done < <(sed -E 's/^uint32_t block_([a-z_]+)\(.*/\1/' "$out/exported")
-    "$cc" -std=c99 "${strict[@]}" -I"$include" "$out/page.c" "$library" -o "$out/page" || fail "an example of docs/C-INTERFACE.md does not compile"
-    "$out/page" || fail "an example of docs/C-INTERFACE.md does not hold"
+        grep -q "(${name}(" "$page.c" || fail "docs/C-INTERFACE.md has no example of $name"
+    done < <(sed -nE 's/^static inline uint32_t (monitor_[a-z_]+)\(.*/\1/p' "$include/${header[$1]}")
+    "$cc" -std=c99 "${strict[@]}" -I"$include" "$page.c" "$(library plain)" "$(library origins)" -o "$page" ||
+        fail "an example of docs/C-INTERFACE.md does not compile"
+    "$page" || fail "an example of docs/C-INTERFACE.md does not hold"
     pass
 }
 
-# lesson MISTAKE EXPECTED STATUS FLAG..: builds the lesson, runs it, compares output and exit status.
+# lesson FORM MISTAKE EXPECTED STATUS FLAG..: builds the lesson, runs it, compares output and exit status.
 lesson() {
-    local mistake=$1 expected=examples/lesson/$2 status=$3 got=0
-    shift 3
-    (cd examples/lesson && "$cc" -std=c99 "${strict[@]}" "$@" -DMISTAKE="$mistake" -I"$include" lesson.c checks.c areas.c "$library" -o "$out/lesson") ||
+    local form=$1 mistake=$2 expected=examples/lesson/$3 status=$4 got=0
+    shift 4
+    if [ "$form" = origins ]; then set -- -DORIGINS "$@"; fi
+    (cd examples/lesson && "$cc" -std=c99 "${strict[@]}" "$@" -DMISTAKE="$mistake" -I"$include" lesson.c checks.c areas.c "$(library "$form")" -o "$out/lesson") ||
         fail "the lesson with mistake $mistake does not compile ($*)"
     "$out/lesson" >"$out/lesson.out" || got=$?
     same "$expected" "$out/lesson.out" "$expected ($*)"
     [ "$got" -eq "$status" ] || fail "$expected ($*): exit status $got, expected $status"
 }
 
+# Seven mistakes are found in both forms; the plain form takes the eighth for good, and the lesson runs to its end.
 test_lesson() {
-    local n
-    lesson 0 lesson.expected 0 "$@"
-    for n in 1 2 3 4 5 6 7; do
-        lesson $n mistake-$n.expected 1 "$@"
+    local form n
+    for form in "${forms[@]}"; do
+        lesson "$form" 0 lesson.expected 0 "$@"
+        for n in 1 2 3 4 5 6 7; do
+            lesson "$form" $n mistake-$n.expected 1 "$@"
+        done
     done
+    lesson plain 8 mistake-8-plain.expected 0 "$@"
+    lesson origins 8 mistake-8.expected 1 "$@"
 }
 
 command -v "$cc" >/dev/null || fail "no C compiler ($cc)"
-[ -f "$library" ] || fail "no $library: run ./build-c.sh"
+for form in "${forms[@]}"; do
+    [ -f "$(library "$form")" ] || fail "no $(library "$form"): run ./build-c.sh"
+done
 mkdir -p "$out"
-test_header
+for form in "${forms[@]}"; do
+    test_header "$form"
+    test_page "$form"
+done
 test_header_cpp
-test_page
 test_lesson -O0
 test_lesson -O2
 sanitize=(-O1 -g -fsanitize=address -fsanitize=undefined -fno-sanitize-recover=all)

@@ -4,7 +4,8 @@
  * A program that works on lent memory tells the monitor of every allocation and release, and asks it before every pointer use. The monitor
  * keeps what it knows in three shadows that the caller lends; it allocates nothing and keeps no state of its own.
  *
- * Link with target/staticlib/libmonitor_c.a (./build-c.sh makes it). docs/C-INTERFACE.md has an example for each call.
+ * Link with target/staticlib/libmonitor_c.a (./build-c.sh makes it). docs/C-INTERFACE.md has an example for each call. The form with origins,
+ * which also knows stale pointers, is in block_monitor_origins.h.
  */
 #ifndef BLOCK_MONITOR_H
 #define BLOCK_MONITOR_H
@@ -28,19 +29,21 @@ extern "C" {
 
 /*
  * What a call returns: accepted, or why it is refused. A refused call stores zero in every field and alters no shadow byte. The lowest number
- * that holds is returned, but 8 comes before 7. Where a number is said to be record's, it is record_written's as well. Later numbers may be
- * added: take any that is not 0 for a refusal.
+ * that holds is returned, but 8 comes before 7. Where a number is said to be record's, it is record_written's as well. 11 and 12 are of the form
+ * with origins alone. Later numbers may be added: take any that is not 0 for a refusal.
  */
 enum block_monitor_number {
     BLOCK_MONITOR_ACCEPTED = 0,
     BLOCK_MONITOR_BAD_MAP = 1,       /* the map breaks a rule */
-    BLOCK_MONITOR_SHADOW_LENGTH = 2, /* a shadow is not as long as its area */
+    BLOCK_MONITOR_SHADOW_LENGTH = 2, /* a shadow is not as long as its area; with origins: or cells are not twice as long */
     BLOCK_MONITOR_NO_BYTES = 3,      /* length or n is 0 */
     BLOCK_MONITOR_OUTSIDE = 4,       /* in neither area, but for free of 0; record: block or heap header does not fit its area */
-    BLOCK_MONITOR_UNALIGNED = 5,     /* record: the heap base is no multiple of 8 */
+    BLOCK_MONITOR_UNALIGNED = 5,     /* record: the heap base is no multiple of 8; with origins: or the stack base none of 4 */
     BLOCK_MONITOR_OCCUPIED = 6,      /* record: the place, with its header, is not free */
     BLOCK_MONITOR_NO_BLOCK = 7,      /* no block there; free: not its first byte; written: not all in one; next: none follows */
-    BLOCK_MONITOR_DAMAGED = 8        /* a shadow was overwritten: what is met there is no block's state; audit: no list's image */
+    BLOCK_MONITOR_DAMAGED = 8,       /* a shadow was overwritten: what is met there is no block's state; audit: no list's image */
+    BLOCK_MONITOR_NO_POINTER = 11,   /* point, copy, live: no cell there: no multiple of 4, or its four bytes are not in one block */
+    BLOCK_MONITOR_NO_ORIGIN = 12     /* record: the counter is no origin, 1 to 4,294,967,295 */
 };
 
 /*
@@ -222,13 +225,15 @@ static inline const char *monitor_words(uint32_t number)
     switch (number) {
     case BLOCK_MONITOR_ACCEPTED: return "accepted";
     case BLOCK_MONITOR_BAD_MAP: return "the map breaks a rule";
-    case BLOCK_MONITOR_SHADOW_LENGTH: return "a shadow is not as long as its area";
+    case BLOCK_MONITOR_SHADOW_LENGTH: return "a shadow of the wrong length";
     case BLOCK_MONITOR_NO_BYTES: return "a length of 0";
     case BLOCK_MONITOR_OUTSIDE: return "outside the areas, or no room there";
-    case BLOCK_MONITOR_UNALIGNED: return "a heap base that is no multiple of 8";
+    case BLOCK_MONITOR_UNALIGNED: return "a base that is not aligned";
     case BLOCK_MONITOR_OCCUPIED: return "the place is not free";
     case BLOCK_MONITOR_NO_BLOCK: return "no such block";
     case BLOCK_MONITOR_DAMAGED: return "a shadow is damaged";
+    case BLOCK_MONITOR_NO_POINTER: return "no pointer can stand there";
+    case BLOCK_MONITOR_NO_ORIGIN: return "the origins are used up";
     default: return "an unknown number";
     }
 }

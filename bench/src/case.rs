@@ -10,9 +10,10 @@ use model::random::Random;
 use crate::lists::Calls;
 use crate::places::{self, Room};
 use crate::state::{filled, roomy, State};
+use crate::targets::{targets, Target};
 
 /// Addresses asked for, in no order.
-const QUERIES: usize = 1024;
+pub const QUERIES: usize = 1024;
 
 /// What a case is, for the targets.
 #[derive(Clone, Copy, PartialEq, Eq)]
@@ -24,6 +25,8 @@ pub enum Group {
     Placing,
     Whole,
     Replay,
+    /// The calls that only the form with origins has.
+    Pointer,
 }
 
 pub struct Case {
@@ -34,7 +37,7 @@ pub struct Case {
     pub before: Vec<Call>,
     pub timed: Vec<Call>,
     pub after: Vec<Call>,
-    /// The timed calls in a form that is quick to walk.
+    /// The timed calls in a form that is quick to walk. Of a pointer they are its own, and `timed` has what the plain form does instead.
     pub calls: Calls,
 }
 
@@ -66,14 +69,16 @@ impl Case {
 pub struct Plan {
     pub states: Vec<State>,
     pub cases: Vec<Case>,
+    /// The targets of a case, by its number.
+    pub targets: fn(usize, &Case) -> Vec<Target>,
 }
 
-const FILLED: usize = 0;
+pub const FILLED: usize = 0;
 pub const ROOMY: usize = 1;
 
 /// All states and cases; the traces are given as their files.
 pub fn plan(traces: &[(&'static str, Vec<u8>)]) -> Plan {
-    let mut states = vec![filled(), roomy()];
+    let mut states = vec![filled(1), roomy(1)];
     let mut cases = readings(&states[FILLED]);
     cases.extend(markings(&states[FILLED], &states[ROOMY]));
     cases.extend(places::cases(&states[ROOMY]));
@@ -89,7 +94,11 @@ pub fn plan(traces: &[(&'static str, Vec<u8>)]) -> Plan {
         let number = states.len() - 1;
         cases.push(replay(&states[number], number, calls));
     }
-    Plan { states, cases }
+    Plan {
+        states,
+        cases,
+        targets,
+    }
 }
 
 /// One call for each of many blocks picked at random: the block, and an offset with room for n bytes below a limit.

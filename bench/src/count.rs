@@ -11,6 +11,10 @@ use crate::side::Side;
 /// Instructions of a call, by case and side.
 pub type Counts = Vec<Vec<Option<f64>>>;
 
+/// The words on which this program makes one pass of a plan and ends.
+pub const ONE_PASS: &str = "one-pass";
+pub const ONE_PASS_OF_FORMS: &str = "one-pass-of-forms";
+
 pub fn valgrind_there() -> bool {
     let asked = Command::new("valgrind")
         .arg("--version")
@@ -53,15 +57,16 @@ pub fn one_pass(plan: &Plan, sides: &mut [Side]) {
 /// The counts of the sides in this program, by running it again, and of the servers.
 pub fn count(
     plan: &Plan,
+    word: &str,
     here: &[Side],
     servers: &[(&'static str, PathBuf)],
     folder: &Path,
 ) -> Counts {
     let mut counts: Counts = plan.cases.iter().map(|_| Vec::new()).collect();
-    let dumps = fresh(folder, "here");
+    let dumps = fresh(folder, word);
     let mut words = callgrind(&dumps);
     let own = std::env::current_exe().expect("this program's path");
-    words.extend([own.display().to_string(), "one-pass".into()]);
+    words.extend([own.display().to_string(), word.into()]);
     let status = Command::new(&words[0])
         .args(&words[1..])
         .stdout(Stdio::null())

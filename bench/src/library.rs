@@ -7,14 +7,14 @@ use crate::lists::{Calls, Maker, Weight};
 use crate::side::Here;
 use crate::state::{State, HEAP_SIZE, STACK_SIZE};
 
-type Four = [u32; 4];
+pub type Four = [u32; 4];
 
 /// The three lent shadows and the map, as the library takes them.
 pub struct Lent {
-    map: Four,
-    heap: Vec<u8>,
-    primary: Vec<u8>,
-    secondary: Vec<u8>,
+    pub map: Four,
+    pub heap: Vec<u8>,
+    pub primary: Vec<u8>,
+    pub secondary: Vec<u8>,
 }
 
 impl Lent {
@@ -27,7 +27,7 @@ impl Lent {
         }
     }
 
-    fn clear_for(&mut self, state: &State) {
+    pub fn clear_for(&mut self, state: &State) {
         let map = state.map;
         self.map = [
             map.heap_start,
@@ -64,7 +64,7 @@ fn symbol(call: &Call) -> &'static str {
 
 /// Declares the symbols of a build and makes a side of it, with the symbols that it lacks: in their place stand stubs (before.sh).
 macro_rules! build {
-    ($side:ident, $title:literal, $clear:literal, $record:literal, $record_written:literal, $free:literal, $written:literal,
+    ($side:ident, $clear:literal, $record:literal, $record_written:literal, $free:literal, $written:literal,
      $ask:literal, $valid:literal, $initialised:literal, $next:literal, $audit:literal) => {
         pub mod $side {
             use super::*;
@@ -95,6 +95,7 @@ macro_rules! build {
             }
 
             pub struct Library {
+                pub title: &'static str,
                 pub lent: Lent,
                 pub lacks: Vec<String>,
             }
@@ -144,7 +145,7 @@ macro_rules! build {
 
             impl Here for Library {
                 fn title(&self) -> &'static str {
-                    $title
+                    self.title
                 }
 
                 fn has(&self, case: &Case) -> bool {
@@ -178,7 +179,6 @@ macro_rules! build {
 
 build!(
     this,
-    "monitor",
     "block_monitor_clear",
     "block_monitor_record",
     "block_monitor_record_written",
@@ -194,7 +194,6 @@ build!(
 #[cfg(before)]
 build!(
     before,
-    "before",
     "before_block_monitor_clear",
     "before_block_monitor_record",
     "before_block_monitor_record_written",

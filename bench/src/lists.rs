@@ -1,6 +1,7 @@
 //! Lists of calls: a list of one kind has a loop of its own, so that no dispatch is timed with it.
 
 use model::call::Call;
+use model::origins::call::OriginsCall;
 
 pub enum Calls {
     Asks(Vec<u32>),
@@ -13,6 +14,11 @@ pub enum Calls {
     Nexts(Vec<u32>),
     Audits(usize),
     Clears(usize),
+    /// A cell and an address.
+    Points(Vec<(u32, u32)>),
+    /// A cell, and the cell that it is copied from.
+    Copies(Vec<(u32, u32)>),
+    Lives(Vec<(u32, u32)>),
     Mixed(Vec<Call>),
 }
 
@@ -97,6 +103,21 @@ impl Calls {
                     maker.one(Call::Clear);
                 }
             }
+            Calls::Points(list) => {
+                for &(cell, address) in list {
+                    maker.pointer(OriginsCall::Point { cell, address });
+                }
+            }
+            Calls::Copies(list) => {
+                for &(to, from) in list {
+                    maker.pointer(OriginsCall::Copy { to, from });
+                }
+            }
+            Calls::Lives(list) => {
+                for &(cell, address) in list {
+                    maker.pointer(OriginsCall::Live { cell, address });
+                }
+            }
             Calls::Mixed(list) => {
                 for &call in list {
                     maker.one(call);
@@ -109,6 +130,18 @@ impl Calls {
 /// What makes one call. To be inlined always: in a loop of one kind its choice between kinds then falls away.
 pub trait Maker {
     fn one(&mut self, call: Call);
+
+    /// A call of a pointer. A side that has none asks for the address.
+    #[inline(always)]
+    fn pointer(&mut self, call: OriginsCall) {
+        match call {
+            OriginsCall::Point { address, .. } | OriginsCall::Live { address, .. } => {
+                self.one(Call::Ask { address })
+            }
+            OriginsCall::Copy { from, .. } => self.one(Call::Ask { address: from }),
+            OriginsCall::Plain(call) => self.one(call),
+        }
+    }
 }
 
 /// A call's fields in a calls file; clear has none.
@@ -146,6 +179,11 @@ impl Weight {
             _ => 0,
         };
         self.0 += (u64::from(number) << 32) + u64::from(told);
+    }
+
+    #[inline(always)]
+    pub fn add_pointer(&mut self, number: u32, fields: &[u32; 4]) {
+        self.0 += (u64::from(number) << 32) + u64::from(fields[0]);
     }
 
     pub fn total(self) -> u64 {

@@ -2,10 +2,12 @@
 
 mod case;
 mod count;
+mod forms;
 mod library;
 mod lists;
 mod measure;
 mod memset;
+mod origins;
 mod places;
 mod plot;
 mod report;
@@ -24,6 +26,7 @@ use case::Plan;
 use library::Lent;
 use measure::Effort;
 use memset::Memset;
+use origins::Origins;
 use report::Report;
 use server::Server;
 use side::{Model, Side};
@@ -44,17 +47,32 @@ fn traces() -> Vec<(&'static str, Vec<u8>)> {
 fn here() -> Vec<Side> {
     vec![
         Side::Here(Box::new(library::this::Library {
+            title: "monitor",
             lent: Lent::new(),
             lacks: Vec::new(),
         })),
         #[cfg(before)]
         Side::Here(Box::new(library::before::Library {
+            title: "before",
             lent: Lent::new(),
             lacks: lacks(),
         })),
-        Side::Here(Box::new(Memset::new())),
+        Side::Here(Box::new(Memset::new(false))),
         Side::Here(Box::new(Model::<PlainList>::new("list"))),
         Side::Here(Box::new(Model::<PlainTree>::new("tree"))),
+    ]
+}
+
+/// The form with origins, beside the plain form.
+fn forms() -> Vec<Side> {
+    vec![
+        Side::Here(Box::new(Origins::new())),
+        Side::Here(Box::new(library::this::Library {
+            title: "plain",
+            lent: Lent::new(),
+            lacks: Vec::new(),
+        })),
+        Side::Here(Box::new(Memset::new(true))),
     ]
 }
 
@@ -79,22 +97,49 @@ fn servers() -> Vec<(&'static str, PathBuf)> {
 
 fn main() {
     let words: Vec<String> = std::env::args().skip(1).collect();
-    let plan = case::plan(&traces());
-    if words.first().is_some_and(|word| word == "one-pass") {
-        count::one_pass(&plan, &mut here());
-        return;
+    match words.first().map(String::as_str) {
+        Some(count::ONE_PASS) => return count::one_pass(&case::plan(&traces()), &mut here()),
+        Some(count::ONE_PASS_OF_FORMS) => return count::one_pass(&forms::plan(), &mut forms()),
+        _ => {}
     }
     let quick = words.iter().any(|word| word == "--quick");
     let effort = Effort {
         rounds: if quick { 5 } else { 15 },
         turn: if quick { 1e6 } else { 4e6 },
     };
-    let report = run(plan, &effort);
-    print!("{}", report.text());
-    report.write(Path::new(OUT));
+    let report = run(case::plan(&traces()), &effort);
+    let forms = run_forms(forms::plan(), &effort);
+    print!("{}\n{}", report.text(), forms.form_text());
+    report.write(Path::new(OUT), &forms);
     if words.iter().any(|word| word == "--docs") {
-        report.write_docs(Path::new("docs"));
+        report.write_docs(Path::new("docs"), &forms);
     }
+}
+
+fn run_forms(plan: Plan, effort: &Effort) -> Report {
+    let mut sides = forms();
+    let rows = measure::measure(&plan, &mut sides, effort);
+    let counts = count::valgrind_there().then(|| {
+        count::count(
+            &plan,
+            count::ONE_PASS_OF_FORMS,
+            &forms(),
+            &[],
+            Path::new(OUT),
+        )
+    });
+    Report {
+        plan,
+        titles: sides.iter().map(Side::title).collect(),
+        rows,
+        counts,
+        rounds: effort.rounds,
+        versions: versions(),
+    }
+}
+
+fn versions() -> String {
+    fs::read_to_string(Path::new(OUT).join("versions")).unwrap_or_default()
 }
 
 fn run(plan: Plan, effort: &Effort) -> Report {
@@ -113,27 +158,26 @@ fn run(plan: Plan, effort: &Effort) -> Report {
             server.end();
         }
     }
-    let counts = count::valgrind_there().then(|| count::count(&plan, &here(), &servers, out));
+    let counts = count::valgrind_there()
+        .then(|| count::count(&plan, count::ONE_PASS, &here(), &servers, out));
     Report {
         plan,
         titles,
         rows,
         counts,
         rounds: effort.rounds,
-        versions: fs::read_to_string(out.join("versions")).unwrap_or_default(),
+        versions: versions(),
     }
 }
 
 #[cfg(test)]
 mod tests {
     use super::*;
+    use crate::case::Case;
+    use crate::lists::Calls;
 
-    /// The library and both models answer each case's calls alike.
-    #[test]
-    fn sides_agree() {
-        std::env::set_current_dir("..").expect("the repository's folder");
-        let plan = case::plan(&traces());
-        let mut sides = here();
+    /// The sums of each case's answers, side by side, without memset.
+    fn each_case(plan: &Plan, mut sides: Vec<Side>, check: impl Fn(&Case, &[u64])) {
         sides.retain(|side| side.title() != "memset");
         for (number, state) in plan.states.iter().enumerate() {
             for side in &mut sides {
@@ -146,14 +190,31 @@ mod tests {
                         side.run(case, 1).1
                     };
                     let sums: Vec<u64> = sides.iter_mut().map(&mut sum).collect();
-                    let first = sums[0];
-                    assert!(
-                        sums.iter().all(|&sum| sum == first),
-                        "{}: {sums:?}",
-                        case.title
-                    );
+                    check(case, &sums);
                 }
             }
         }
+    }
+
+    fn same(case: &Case, sums: &[u64]) {
+        let all = sums.iter().all(|&sum| sum == sums[0]);
+        assert!(all, "{}: {sums:?}", case.title);
+    }
+
+    /// The library and both models answer each case's calls alike.
+    #[test]
+    fn sides_agree() {
+        std::env::set_current_dir("..").expect("the repository's folder");
+        each_case(&case::plan(&traces()), here(), same);
+    }
+
+    /// Both forms record and free alike; each pointer that is asked about is live, each other call of a pointer accepted without an answer.
+    #[test]
+    fn forms_agree() {
+        each_case(&forms::plan(), forms(), |case, sums| match case.calls {
+            Calls::Lives(_) => assert_eq!(sums[0], case.timed.len() as u64, "{}", case.title),
+            Calls::Points(_) | Calls::Copies(_) => assert_eq!(sums[0], 0, "{}", case.title),
+            _ => same(case, sums),
+        });
     }
 }

@@ -16,6 +16,8 @@ use crate::state::{State, HEAP_SIZE, STACK_SIZE};
 const READING: usize = 9;
 const HEAP: usize = HEAP_SIZE as usize;
 const STACK: usize = STACK_SIZE as usize;
+/// Where the cells begin, the heap's before the stack's.
+const CELLS: usize = HEAP + STACK + STACK;
 
 /// A part of one of the three shadows.
 #[derive(Clone, Copy)]
@@ -24,17 +26,20 @@ struct Part {
     length: usize,
 }
 
-/// The three shadows one after the other, and room for a part that begins at the very end.
+/// The three shadows one after the other, those of the cells, and room for a part that begins at the very end.
 pub struct Memset {
     shadows: Vec<u8>,
     parts: Vec<Part>,
+    /// Whether free zeroes cells too.
+    cells: bool,
 }
 
 impl Memset {
-    pub fn new() -> Self {
+    pub fn new(cells: bool) -> Self {
         Memset {
-            shadows: vec![0; HEAP + STACK + STACK + 64],
+            shadows: vec![0; CELLS + 2 * (HEAP + STACK) + 64],
             parts: Vec::new(),
+            cells,
         }
     }
 }
@@ -54,6 +59,9 @@ impl Here for Memset {
         self.parts.clear();
         for &call in &case.timed {
             touched(state.map, &mut list, call, &mut self.parts);
+            if self.cells {
+                self.parts.extend(cells(state.map, &mut list, call));
+            }
             list.step(call);
         }
     }
@@ -144,6 +152,19 @@ fn placed(map: Map, base: u32, length: u32, mut add: impl FnMut(usize, usize)) {
     }
 }
 
+/// The cells that free zeroes: eight bytes for each four of the block.
+fn cells(map: Map, list: &mut PlainTree, call: Call) -> Option<Part> {
+    let Call::Free { base } = call else {
+        return None;
+    };
+    let length = list.step(Call::Ask { address: base }).fields[1] as usize;
+    let (_, start) = place(map, base)?;
+    Some(Part {
+        start: CELLS + 2 * start,
+        length: 2 * length.next_multiple_of(4),
+    })
+}
+
 #[cfg(test)]
 mod tests {
     use super::*;
@@ -151,7 +172,7 @@ mod tests {
 
     /// Where a part begins, and its length.
     fn parts(call: Call) -> Vec<(usize, usize)> {
-        let state = roomy();
+        let state = roomy(1);
         let mut parts = Vec::new();
         touched(state.map, &mut state.list(), call, &mut parts);
         parts.iter().map(|part| (part.start, part.length)).collect()
@@ -160,8 +181,8 @@ mod tests {
     /// Nine bytes of a reading, and one for each segment of the heap or each byte of the stack.
     #[test]
     fn marks() {
-        let heap = roomy().map.heap_start;
-        let stack = roomy().map.stack_start;
+        let heap = roomy(1).map.heap_start;
+        let stack = roomy(1).map.stack_start;
         for (n, segments) in [(8, 1), (64, 8), (1024, 128)] {
             let address = heap + 80;
             let whole = vec![(80, 9 + segments)];
@@ -177,5 +198,24 @@ mod tests {
             n: 2,
         };
         assert_eq!(parts(across), [(87, 9 + 2)]);
+    }
+
+    /// Two bytes for each byte of whole cells.
+    #[test]
+    fn freed_cells() {
+        let state = roomy(4);
+        for (area, block) in [(0, &state.heap_blocks()[3]), (1, &state.stack_blocks()[3])] {
+            let part = cells(
+                state.map,
+                &mut state.list(),
+                Call::Free { base: block.base },
+            );
+            let start = [state.map.heap_start, state.map.stack_start][area];
+            let first = [262_144, 262_144 + 262_144][area];
+            let part = part.expect("free zeroes cells");
+            assert_eq!(part.start, first + 2 * (block.base - start) as usize);
+            assert_eq!(part.length, 8 * block.length.div_ceil(4) as usize);
+        }
+        assert!(cells(state.map, &mut state.list(), Call::Audit).is_none());
     }
 }

@@ -135,7 +135,7 @@ mod tests {
 
     #[test]
     fn marks_of_whole_blocks() {
-        let state = roomy();
+        let state = roomy(1);
         let cases = cases(&state);
         for (area, of) in [(Area::Heap, "heap"), (Area::Stack, "stack")] {
             for (length, text) in [(8, "8"), (64, "64"), (1024, "1,024")] {

@@ -8,12 +8,12 @@ use crate::case::Plan;
 use crate::count::Counts;
 use crate::measure::{median, ratio, Row};
 use crate::plot;
-use crate::targets::targets;
 
 const PAGE: &str = "BENCHMARKS.md";
 const PLOT: &str = "benchmarks.svg";
 const BEGIN: &str = "<!-- begin: written by ./bench.sh --docs -->";
 const BEGIN_MARKS: &str = "<!-- begin: marks, written by ./bench.sh --before COMMIT --docs -->";
+const BEGIN_FORMS: &str = "<!-- begin: forms, written by ./bench.sh --docs -->";
 const END: &str = "<!-- end -->";
 
 pub struct Report {
@@ -93,6 +93,50 @@ impl Report {
         text
     }
 
+    /// The tables of a run that sets the form with origins beside the plain form.
+    pub fn form_text(&self) -> String {
+        format!(
+            "### The form with origins: targets\n\n{}\n### The form with origins: time and instructions\n\n{}",
+            self.target_table(),
+            self.form_table()
+        )
+    }
+
+    /// This form beside the plain one and memset.
+    fn form_table(&self) -> String {
+        let mut table = format!(
+            "Nanoseconds a call, median of {} rounds; ratios are the median of the rounds' ratios; instructions a call by callgrind, the loop over the calls included. Beside `point`, `copy` and `live` the plain form's call is `ask`.\n\n\
+             | Case | ns | ns plain | of plain | ns memset | of memset | instructions | instructions plain | of plain |\n\
+             |---|---:|---:|---:|---:|---:|---:|---:|---:|\n",
+            self.rounds
+        );
+        let side = |name: &str| self.titles.iter().position(|&title| title == name);
+        let (plain, memset) = (
+            side("plain").expect("its side"),
+            side("memset").expect("its side"),
+        );
+        for (index, case) in self.plan.cases.iter().enumerate() {
+            let (own, other) = (self.count(index, 0), self.count(index, plain));
+            let cells = [
+                self.time(index, 0).map(short),
+                self.time(index, plain).map(short),
+                self.in_peer(index, plain).map(short),
+                self.time(index, memset).map(short),
+                self.in_peer(index, memset).map(short),
+                own.map(whole),
+                other.map(whole),
+                own.zip(other).map(|(own, other)| short(own / other)),
+            ];
+            let _ = writeln!(
+                table,
+                "| {} | {} |",
+                case.title,
+                cells.map(cell).join(" | ")
+            );
+        }
+        table
+    }
+
     fn header(&self, skip: &str) -> String {
         let titles = self.titles.iter().filter(|&&title| title != skip);
         let names: Vec<&str> = titles.copied().collect();
@@ -141,7 +185,7 @@ impl Report {
     fn target_table(&self) -> String {
         let mut table = String::from("| Case | at most | is | |\n|---|---:|---:|---|\n");
         for (index, case) in self.plan.cases.iter().enumerate() {
-            for target in targets(index, case) {
+            for target in (self.plan.targets)(index, case) {
                 let side = self.titles.iter().position(|&title| title == target.peer);
                 let reached = side.and_then(|side| self.in_peer(target.case, side));
                 let (value, verdict) = match reached {
@@ -191,29 +235,34 @@ impl Report {
         table
     }
 
-    /// The tables and the plot into a folder.
-    pub fn write(&self, folder: &Path) {
-        fs::write(folder.join("tables.md"), self.text()).expect("the tables are written");
+    /// The tables, with those of another run that compares the forms, and the plot into a folder.
+    pub fn write(&self, folder: &Path, forms: &Report) {
+        let text = format!("{}\n{}", self.text(), forms.form_text());
+        fs::write(folder.join("tables.md"), text).expect("the tables are written");
         fs::write(folder.join(PLOT), plot::plot(self)).expect("the plot is written");
     }
 
     /// A run with an earlier build writes the page's table of marks, any other run all other tables, and the plot beside it.
-    pub fn write_docs(&self, docs: &Path) {
+    pub fn write_docs(&self, docs: &Path, forms: &Report) {
         let page = docs.join(PAGE);
         let old = fs::read_to_string(&page).expect("the page is there");
-        fs::write(&page, self.page(&old)).expect("the page is written");
+        fs::write(&page, self.page(&old, forms)).expect("the page is written");
         if self.earlier().is_none() {
             fs::write(docs.join(PLOT), plot::plot(self)).expect("the plot is written");
         }
     }
 
-    fn page(&self, old: &str) -> String {
+    fn page(&self, old: &str, forms: &Report) -> String {
         match self.earlier() {
             Some(earlier) => {
                 let text = format!("{}\n{}", self.versions, self.mark_table(earlier));
                 replaced(old, BEGIN_MARKS, &text)
             }
-            None => replaced(old, BEGIN, &self.text()),
+            None => replaced(
+                &replaced(old, BEGIN, &self.text()),
+                BEGIN_FORMS,
+                &forms.form_text(),
+            ),
         }
     }
 }

@@ -40,8 +40,8 @@ fn add(calls: &mut Vec<Call>, base: u32, length: u32) {
     });
 }
 
-/// Blocks one after the other, up to a longest length; the last one ends the area.
-fn blocks(longest_heap: u32, longest_stack: u32) -> Vec<Call> {
+/// Blocks one after the other, up to a longest length, stack bases at multiples of a number; the last one ends the area.
+fn blocks(longest_heap: u32, longest_stack: u32, aligned: u32) -> Vec<Call> {
     let mut random = Random::new(20);
     let mut calls = Vec::new();
     let mut at = HEAP_START;
@@ -60,7 +60,7 @@ fn blocks(longest_heap: u32, longest_stack: u32) -> Vec<Call> {
             random.between(9, longest_stack)
         };
         add(&mut calls, at, length);
-        at += length;
+        at = (at + length).next_multiple_of(aligned);
     }
     last(&mut calls, at, STACK_END);
     calls
@@ -74,20 +74,20 @@ fn last(calls: &mut Vec<Call>, lowest: u32, end: u32) {
 }
 
 /// 1,000 live blocks all over the two areas.
-pub fn filled() -> State {
+pub fn filled(aligned: u32) -> State {
     State {
         title: "filled",
         map: full_map(),
-        calls: blocks(486, 400),
+        calls: blocks(486, 400, aligned),
     }
 }
 
 /// 1,000 live blocks and much room between the last two of each area.
-pub fn roomy() -> State {
+pub fn roomy(aligned: u32) -> State {
     State {
         title: "roomy",
         map: full_map(),
-        calls: blocks(100, 80),
+        calls: blocks(100, 80, aligned),
     }
 }
 

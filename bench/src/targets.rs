@@ -1,6 +1,7 @@
 //! The targets, as ratios of one run.
 
 use crate::case::{Case, Group};
+use crate::lists::Calls;
 
 /// At most so many times a peer's time.
 pub struct Target {
@@ -11,7 +12,7 @@ pub struct Target {
 
 const AUDIT: &str = "audit";
 
-/// The targets of a case.
+/// The targets of a case of the plain form.
 pub fn targets(index: usize, case: &Case) -> Vec<Target> {
     let target = |peer, most| Target {
         case: index,
@@ -24,6 +25,24 @@ pub fn targets(index: usize, case: &Case) -> Vec<Target> {
         Group::Placing if case.title.contains("1,024") => vec![target("memset", 4.0)],
         Group::Whole if case.title == AUDIT => vec![target("memset", 10.0)],
         Group::Replay => vec![target("shadow", 1.0)],
+        _ => Vec::new(),
+    }
+}
+
+/// The targets of a case of the form with origins. Beside a call of a pointer the plain form's is `ask`, which looks at one area: a pointer from
+/// one area into the other has no target.
+pub fn form_targets(index: usize, case: &Case) -> Vec<Target> {
+    let target = |peer, most| Target {
+        case: index,
+        peer,
+        most,
+    };
+    match case.calls {
+        Calls::Lives(_) if case.title == "live, heap" || case.title == "live, stack" => {
+            vec![target("plain", 2.0)]
+        }
+        Calls::Records(_) if case.title.contains("of 8,") => vec![target("plain", 1.3)],
+        Calls::Frees(_) if case.title.contains("1,024") => vec![target("memset", 4.0)],
         _ => Vec::new(),
     }
 }

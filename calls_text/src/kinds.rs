@@ -1,4 +1,42 @@
-//! The kinds of records. A new kind is a new row of [`KINDS`], and nothing else here.
+//! The kinds of records. A new kind is a new row of [`KINDS`], or of [`ORIGINS_KINDS`] where the form with origins has it alone, and
+//! nothing else here.
+
+/// The form of a calls file, which is that of the program it is for.
+#[derive(Clone, Copy, Debug, Default, PartialEq, Eq)]
+pub enum Form {
+    #[default]
+    Plain,
+    Origins,
+}
+
+impl Form {
+    /// The word of the form; `origins` is also the line that a text of it begins with.
+    pub fn word(self) -> &'static str {
+        match self {
+            Form::Plain => "plain",
+            Form::Origins => "origins",
+        }
+    }
+
+    /// The kinds of the form: the plain ones, and with origins three more.
+    pub fn kinds(self) -> impl Iterator<Item = &'static Kind> {
+        let more = match self {
+            Form::Plain => &[],
+            Form::Origins => ORIGINS_KINDS,
+        };
+        KINDS.iter().chain(more)
+    }
+
+    /// The kind of a number, if there is one.
+    pub fn of_number(self, number: u16) -> Option<&'static Kind> {
+        self.kinds().find(|kind| kind.number == number)
+    }
+
+    /// The kind of a word, if there is one.
+    pub fn of_word(self, word: &str) -> Option<&'static Kind> {
+        self.kinds().find(|kind| kind.word == word)
+    }
+}
 
 /// A kind of record: its word in text, its fields, and what its line says.
 pub struct Kind {
@@ -12,6 +50,7 @@ pub struct Kind {
     pub told: fn(&[u32], &[u32]) -> String,
 }
 
+/// The kinds of the plain form, which the other has too.
 pub const KINDS: &[Kind] = &[
     Kind {
         number: 1,
@@ -117,20 +156,42 @@ pub const KINDS: &[Kind] = &[
     },
 ];
 
+/// The kinds of the form with origins alone.
+pub const ORIGINS_KINDS: &[Kind] = &[
+    Kind {
+        number: 11,
+        word: "point",
+        fields: &["cell", "address"],
+        answers: &[],
+        told: |f, _| {
+            let (cell, address) = (f[0], f[1]);
+            format!("set: the pointer at {cell}, to the block of {address} if there is one")
+        },
+    },
+    Kind {
+        number: 12,
+        word: "copy",
+        fields: &["to", "from"],
+        answers: &[],
+        told: |f, _| format!("set: the pointer at {}, as the one at {}", f[0], f[1]),
+    },
+    Kind {
+        number: 13,
+        word: "live",
+        fields: &["cell", "address"],
+        answers: &["live"],
+        told: |f, a| {
+            let (cell, address) = (f[0], f[1]);
+            let said = either(a[0], "yes, live and holds", "no, not live or does not hold");
+            format!("{said} {address}: what the pointer at {cell} was set to")
+        },
+    },
+];
+
 impl Kind {
     /// The length of a record of this kind: length, kind and fields.
     pub fn length(&self) -> usize {
         4 + 4 * self.fields.len()
-    }
-
-    /// The kind of a number, if there is one.
-    pub fn of_number(number: u16) -> Option<&'static Kind> {
-        KINDS.iter().find(|kind| kind.number == number)
-    }
-
-    /// The kind of a word, if there is one.
-    pub fn of_word(word: &str) -> Option<&'static Kind> {
-        KINDS.iter().find(|kind| kind.word == word)
     }
 }
 

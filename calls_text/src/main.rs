@@ -3,7 +3,7 @@
 use std::io::{self, Read, Write};
 use std::process::ExitCode;
 
-use calls_text::kinds::KINDS;
+use calls_text::kinds::{Form, Kind, KINDS, ORIGINS_KINDS};
 use calls_text::show::show;
 use calls_text::text::{parse, text, Parsed};
 
@@ -11,7 +11,9 @@ const USAGE: &str = "\
 calls_text encode FILE.txt     text to a calls file, on standard output
 calls_text decode FILE         a calls file to text; status 1 if a record does not decode (its bytes are written as they are)
 calls_text show FILE OUTPUT    input and output of a run side by side, in words; status 1 if a line cannot be its record's
-A FILE whose name ends in .txt is text for `show`, any other is a calls file; `-` is standard input.
+calls_text form FILE.txt       the form of a text, which tells the program it is for: plain (calls) or origins (calls_origins)
+A FILE whose name ends in .txt is text for `show`, any other is a calls file; `-` is standard input. A calls file is of the plain form;
+`decode --origins` and `show --origins` take one of the form with origins.
 
 A line of text is a word and its numbers, decimal or hexadecimal after 0x; `#` begins a remark:
 ";
@@ -21,8 +23,14 @@ fn main() -> ExitCode {
     let words: Vec<&str> = arguments.iter().map(String::as_str).collect();
     let done = match words[..] {
         ["encode", name] => text_file(name).and_then(|parsed| put(&parsed.file)),
-        ["decode", name] => decode(name),
-        ["show", name, output] => show_run(name, output),
+        ["decode", name] => decode(Form::Plain, name),
+        ["decode", "--origins", name] => decode(Form::Origins, name),
+        ["show", name, output] => show_run(Form::Plain, name, output),
+        ["show", "--origins", name, output] => show_run(Form::Origins, name, output),
+        ["form", name] => text_file(name).and_then(|parsed| {
+            let word = parsed.form.word();
+            put(format!("{word}\n").as_bytes())
+        }),
         ["help" | "--help" | "-h"] => put(usage().as_bytes()),
         _ => {
             eprint!("{}", usage());
@@ -39,22 +47,23 @@ fn main() -> ExitCode {
 }
 
 fn usage() -> String {
-    let mut usage = USAGE.to_owned();
-    for kind in KINDS {
-        let fields: Vec<String> = kind
-            .fields
-            .iter()
-            .map(|field| field.to_uppercase())
-            .collect();
-        let fields = fields.join(", ");
-        usage += format!("  {:<14} {fields}", kind.word).trim_end();
-        usage.push('\n');
-    }
-    usage + "  raw            bytes as they are, two hexadecimal digits each\n"
+    let raw = "  raw            bytes as they are, two hexadecimal digits each\n";
+    let origins = "A first line `origins` says that the text is for the form with origins, which has these words too:\n";
+    [USAGE, &rows(KINDS), raw, origins, &rows(ORIGINS_KINDS)].concat()
 }
 
-fn decode(name: &str) -> Result<(), String> {
-    let (text, stop) = text(&bytes(name)?);
+fn rows(kinds: &[Kind]) -> String {
+    let row = |kind: &Kind| {
+        let fields = kind.fields.iter().map(|field| field.to_uppercase());
+        let fields = fields.collect::<Vec<String>>().join(", ");
+        let row = format!("  {:<14} {fields}", kind.word);
+        row.trim_end().to_owned() + "\n"
+    };
+    kinds.iter().map(row).collect()
+}
+
+fn decode(form: Form, name: &str) -> Result<(), String> {
+    let (text, stop) = text(form, &bytes(name)?);
     put(text.as_bytes())?;
     match stop {
         None => Ok(()),
@@ -62,13 +71,16 @@ fn decode(name: &str) -> Result<(), String> {
     }
 }
 
-fn show_run(name: &str, output: &str) -> Result<(), String> {
+/// The form is that of a calls file; a text says its own.
+fn show_run(form: Form, name: &str, output: &str) -> Result<(), String> {
     let input = if name.ends_with(".txt") {
         text_file(name)?
     } else {
-        let file = calls_file(name)?;
-        let remarks = Vec::new();
-        Parsed { file, remarks }
+        Parsed {
+            form,
+            file: calls_file(name)?,
+            remarks: Vec::new(),
+        }
     };
     let lines = string(output)?;
     let shown = show(&input, &lines);

@@ -1,6 +1,6 @@
 //! A calls file taken apart, up to the first record that does not decode.
 
-use crate::kinds::Kind;
+use crate::kinds::{Form, Kind};
 
 /// A record that decodes, and the byte at which it begins.
 pub struct Record {
@@ -34,11 +34,11 @@ impl Stop {
 }
 
 /// All records, and the one that does not decode if there is one.
-pub fn records(file: &[u8]) -> (Vec<Record>, Option<Stop>) {
+pub fn records(form: Form, file: &[u8]) -> (Vec<Record>, Option<Stop>) {
     let mut found = Vec::new();
     let mut at = 0;
     while at < file.len() {
-        match record(file, at) {
+        match record(form, file, at) {
             Ok(record) => {
                 at += record.kind.length();
                 found.push(record);
@@ -52,7 +52,7 @@ pub fn records(file: &[u8]) -> (Vec<Record>, Option<Stop>) {
     (found, None)
 }
 
-fn record(file: &[u8], at: usize) -> Result<Record, String> {
+fn record(form: Form, file: &[u8], at: usize) -> Result<Record, String> {
     let left = &file[at..];
     let &[l0, l1, k0, k1, ..] = left else {
         let bytes = left.len();
@@ -62,7 +62,9 @@ fn record(file: &[u8], at: usize) -> Result<Record, String> {
     };
     let length = usize::from(u16::from_le_bytes([l0, l1]));
     let number = u16::from_le_bytes([k0, k1]);
-    let kind = Kind::of_number(number).ok_or_else(|| format!("kind {number} is unknown"))?;
+    let kind = form
+        .of_number(number)
+        .ok_or_else(|| format!("kind {number} is unknown"))?;
     let right = kind.length();
     if length != right {
         let word = kind.word;

@@ -1,6 +1,6 @@
 //! Input and output of a run side by side, each line with what it means.
 
-use crate::kinds::Kind;
+use crate::kinds::{Form, Kind};
 use crate::records::{records, Record, Stop};
 use crate::refusals::refusal;
 use crate::text::{raw_text, Parsed};
@@ -27,10 +27,11 @@ struct Row {
 
 /// The table of an input and the output of a run on it.
 pub fn show(input: &Parsed, output: &str) -> Shown {
-    let (found, stop) = records(&input.file);
+    let (found, stop) = records(input.form, &input.file);
     let mut lines = output.lines();
     let mut rows: Vec<Row> = Vec::new();
-    rows.extend(found.iter().map(|record| row(record, lines.next())));
+    let found = found.iter();
+    rows.extend(found.map(|record| row(input.form, record, lines.next())));
     rows.extend(stop.map(|stop| last_row(&stop, &input.file, lines.next())));
     rows.extend(lines.map(surplus));
     let wrong = rows.iter().filter(|row| row.wrong).count();
@@ -38,8 +39,10 @@ pub fn show(input: &Parsed, output: &str) -> Shown {
     Shown { text, wrong }
 }
 
-fn row(record: &Record, line: Option<&str>) -> Row {
-    let meaning = line.map_or(Err("no line".to_owned()), |line| meaning(record, line));
+fn row(form: Form, record: &Record, line: Option<&str>) -> Row {
+    let meaning = line.map_or(Err("no line".to_owned()), |line| {
+        meaning(form, record, line)
+    });
     Row {
         at: record.at,
         input: record.text(),
@@ -50,7 +53,7 @@ fn row(record: &Record, line: Option<&str>) -> Row {
 }
 
 /// What a line means, as the line of this record; an error if it cannot be that.
-fn meaning(record: &Record, line: &str) -> Result<String, String> {
+fn meaning(form: Form, record: &Record, line: &str) -> Result<String, String> {
     let Kind { word, answers, .. } = record.kind;
     let not_its = || format!("this is no line of {word}");
     let numbers: Option<Vec<u32>> = line.split(' ').map(|word| word.parse().ok()).collect();
@@ -64,7 +67,7 @@ fn meaning(record: &Record, line: &str) -> Result<String, String> {
                 Err(format!("{word} has {right} answer fields, here are {got}"))
             }
         }
-        [kind, number] if kind == u32::from(record.kind.number) => Ok(refusal(word, number)),
+        [kind, number] if kind == u32::from(record.kind.number) => Ok(refusal(form, word, number)),
         _ => Err(not_its()),
     }
 }

@@ -1,17 +1,19 @@
 //! Text to a calls file, and back.
 //!
 //! A line is a word and its numbers (`record 4104 20`), decimal or hexadecimal after `0x`. `raw 0c 00 02` writes any bytes, so
-//! that every file has a text. `#` begins a remark, at the start of a line or after a record.
+//! that every file has a text. `#` begins a remark, at the start of a line or after a record. A text for the form with origins says so:
+//! its first line that is not blank or a remark is the word `origins` alone, which has no bytes.
 
-use crate::kinds::{count, Kind, KINDS};
+use crate::kinds::{count, Form, Kind};
 use crate::records::{records, Stop};
 
 const RAW: &str = "raw";
 const RAW_BYTES_A_LINE: usize = 16;
 
-/// A calls file, and the remarks of its text, each with the byte that it stands before.
+/// A calls file with its form, and the remarks of its text, each with the byte that it stands before.
 #[derive(Debug, Default)]
 pub struct Parsed {
+    pub form: Form,
     pub file: Vec<u8>,
     pub remarks: Vec<(usize, String)>,
 }
@@ -20,13 +22,21 @@ pub struct Parsed {
 pub fn parse(name: &str, text: &str) -> Result<Parsed, Vec<String>> {
     let mut parsed = Parsed::default();
     let mut errors = Vec::new();
+    let mut first = true;
     for (number, line) in (1..).zip(text.lines()) {
         let (record, remark) = line.split_once('#').unwrap_or((line, ""));
-        if record.trim().is_empty() && !remark.is_empty() {
-            let remark = remark.trim().to_owned();
-            parsed.remarks.push((parsed.file.len(), remark));
+        if record.trim().is_empty() {
+            if !remark.is_empty() {
+                let remark = remark.trim().to_owned();
+                parsed.remarks.push((parsed.file.len(), remark));
+            }
+            continue;
         }
-        match bytes_of(record) {
+        if std::mem::take(&mut first) && record.trim() == Form::Origins.word() {
+            parsed.form = Form::Origins;
+            continue;
+        }
+        match bytes_of(parsed.form, record) {
             Ok(bytes) => parsed.file.extend(bytes),
             Err(error) => errors.push(format!("{name}:{number}: {error}")),
         }
@@ -39,7 +49,7 @@ pub fn parse(name: &str, text: &str) -> Result<Parsed, Vec<String>> {
 }
 
 /// The bytes of one line without its remark.
-fn bytes_of(line: &str) -> Result<Vec<u8>, String> {
+fn bytes_of(form: Form, line: &str) -> Result<Vec<u8>, String> {
     let mut words = line.split_whitespace();
     let Some(word) = words.next() else {
         return Ok(Vec::new());
@@ -48,7 +58,7 @@ fn bytes_of(line: &str) -> Result<Vec<u8>, String> {
     if word == RAW {
         return raw(&rest);
     }
-    let kind = Kind::of_word(word).ok_or_else(|| unknown(word))?;
+    let kind = form.of_word(word).ok_or_else(|| unknown(form, word))?;
     if rest.len() != kind.fields.len() {
         return Err(wrong_count(kind, rest.len()));
     }
@@ -74,8 +84,17 @@ fn raw(words: &[&str]) -> Result<Vec<u8>, String> {
     words.iter().map(byte).collect()
 }
 
-fn unknown(word: &str) -> String {
-    let words: Vec<&str> = KINDS.iter().map(|kind| kind.word).collect();
+fn unknown(form: Form, word: &str) -> String {
+    let origins = Form::Origins.word();
+    if word == origins {
+        return format!("`{origins}` stands alone on the first line, or nowhere");
+    }
+    if Form::Origins.of_word(word).is_some() {
+        return format!(
+            "`{word}` is a word of the form with origins: write `{origins}` on a line before all others"
+        );
+    }
+    let words: Vec<&str> = form.kinds().map(|kind| kind.word).collect();
     let words = words.join(", ");
     let word = word.escape_debug();
     format!("unknown word `{word}`; the words are {words}, {RAW}")
@@ -104,9 +123,13 @@ fn number(word: &str) -> Result<u32, String> {
 }
 
 /// The text of a calls file; from a record that does not decode on, its bytes as they are.
-pub fn text(file: &[u8]) -> (String, Option<Stop>) {
-    let (found, stop) = records(file);
-    let mut lines: Vec<String> = found.iter().map(|record| record.text()).collect();
+pub fn text(form: Form, file: &[u8]) -> (String, Option<Stop>) {
+    let (found, stop) = records(form, file);
+    let mut lines: Vec<String> = Vec::new();
+    if form == Form::Origins {
+        lines.push(form.word().to_owned());
+    }
+    lines.extend(found.iter().map(|record| record.text()));
     if let Some(stop) = &stop {
         lines.push(format!("# {}", stop.message()));
         lines.extend(file[stop.at..].chunks(RAW_BYTES_A_LINE).map(raw_text));

@@ -47,6 +47,40 @@ fn encode_and_decode() {
 }
 
 #[test]
+fn the_form_with_origins() {
+    let stale = repository("examples/calls/stale.txt");
+    let stale = stale.to_string_lossy();
+    let form = |name: &str| tool(&["form", name], &[]).stdout;
+    assert_eq!(form(&stale), b"origins\n");
+    let worked = repository("examples/calls/worked.txt");
+    assert_eq!(form(&worked.to_string_lossy()), b"plain\n");
+    let encoded = tool(&["encode", &stale], &[]);
+    assert!(encoded.status.success());
+    let decoded = tool(&["decode", "--origins", "-"], &encoded.stdout);
+    assert!(decoded.status.success());
+    assert!(decoded.stdout.starts_with(b"origins\nmap "));
+    let again = tool(&["encode", "-"], &decoded.stdout);
+    assert_eq!(again.stdout, encoded.stdout);
+    let plainly = tool(&["decode", "-"], &encoded.stdout);
+    assert_eq!(plainly.status.code(), Some(1));
+    let why = "record 4 at byte 44 does not decode: kind 11 is unknown";
+    assert_eq!(said(&plainly), format!("-: {why}"));
+    let lines = bytes("examples/calls/stale.expected");
+    let calls = file("stale.calls", &encoded.stdout);
+    let calls = calls.to_string_lossy();
+    for words in [
+        &["show", &stale, "-"][..],
+        &["show", "--origins", &calls, "-"],
+    ] {
+        let shown = tool(words, &lines);
+        assert!(shown.status.success(), "{}", said(&shown));
+        let shown = String::from_utf8(shown.stdout).expect("a table is text");
+        assert!(shown.contains("no, not live"), "{shown}");
+    }
+    assert_eq!(tool(&["show", &calls, "-"], &lines).status.code(), Some(1));
+}
+
+#[test]
 fn what_does_not_decode_is_said() {
     let output = tool(&["decode", "-"], &[4, 0, 9, 0, 12, 0]);
     let message = "record 2 at byte 4 does not decode: the file ends after 2 of the 4 bytes that each record has";
@@ -111,7 +145,13 @@ fn no_such_file_and_no_such_command() {
         "{}",
         said(&output)
     );
-    for words in [&[][..], &["encode"], &["walk", "x"], &["show", "x"]] {
+    for words in [
+        &[][..],
+        &["encode"],
+        &["walk", "x"],
+        &["show", "x"],
+        &["decode", "--plain", "x"],
+    ] {
         let output = tool(words, &[]);
         assert_eq!(output.status.code(), Some(2));
         assert!(said(&output).starts_with("calls_text encode FILE.txt"));

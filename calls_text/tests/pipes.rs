@@ -10,6 +10,7 @@ use std::sync::mpsc::channel;
 use std::thread;
 use std::time::Duration;
 
+use calls_text::kinds::Form;
 use common::{assert_lines, end, example, program, repository, run, through_pipe, DEADLINE};
 use model::program::encode;
 use model::random::Random;
@@ -43,7 +44,7 @@ fn a_short_read_is_not_the_end() {
         let input = example(name);
         let expected = model::program::run(&input);
         for size in [1, 3, 5, 7] {
-            let output = through_pipe(in_portions(input.clone(), move || size, pause));
+            let output = through_pipe(Form::Plain, in_portions(input.clone(), move || size, pause));
             assert_lines(&format!("{name} in portions of {size}"), &output, &expected);
         }
     }
@@ -57,7 +58,10 @@ fn random_portions_with_pauses() {
         let input = model::generate::file::file(&mut random, 400);
         let expected = model::program::run(&input);
         let size = move || 1 + random.below(60) as usize;
-        let output = through_pipe(in_portions(input, size, Duration::from_micros(200)));
+        let output = through_pipe(
+            Form::Plain,
+            in_portions(input, size, Duration::from_micros(200)),
+        );
         assert_lines(&format!("seed {seed}"), &output, &expected);
     }
 }
@@ -76,7 +80,10 @@ fn a_long_pause_inside_a_record() {
                 usize::MAX
             }
         };
-        let output = through_pipe(in_portions(input.clone(), size, Duration::from_millis(60)));
+        let output = through_pipe(
+            Form::Plain,
+            in_portions(input.clone(), size, Duration::from_millis(60)),
+        );
         assert_lines(&format!("a pause after {at} bytes"), &output, &expected);
     }
 }
@@ -122,7 +129,7 @@ fn ended_well(status: ExitStatus) {
 
 #[test]
 fn a_closed_output_ends_the_run() {
-    let mut command = Command::new(program());
+    let mut command = Command::new(program(Form::Plain));
     ends_under_flood(command.stdout(Stdio::piped()), one_line);
 }
 
@@ -131,22 +138,28 @@ fn a_closed_output_ends_the_run() {
 fn a_closed_output_without_the_signal_ends_the_run() {
     let mut shell = Command::new("sh");
     let command = shell.args(["-c", "trap '' PIPE; exec \"$0\""]);
-    let command = command.arg(program()).stdout(Stdio::piped());
+    let command = command.arg(program(Form::Plain)).stdout(Stdio::piped());
     ends_under_flood(command, one_line);
 }
 
 #[test]
 fn a_full_disk_ends_the_run() {
     let full = File::create("/dev/full").expect("/dev/full");
-    ends_under_flood(Command::new(program()).stdout(full), |_| ());
+    ends_under_flood(Command::new(program(Form::Plain)).stdout(full), |_| ());
 }
 
 #[test]
 fn a_read_error_ends_the_run() {
     let folder = File::open(repository("examples")).expect("a folder");
-    let ran = run(Command::new(program()).stdin(folder), DEADLINE, |_| ());
+    let ran = run(
+        Command::new(program(Form::Plain)).stdin(folder),
+        DEADLINE,
+        |_| (),
+    );
     ended_well(ran.status);
     let mut shell = Command::new("sh");
-    shell.args(["-c", "exec \"$0\" <&-"]).arg(program());
+    shell
+        .args(["-c", "exec \"$0\" <&-"])
+        .arg(program(Form::Plain));
     ended_well(run(&mut shell, DEADLINE, |_| ()).status);
 }

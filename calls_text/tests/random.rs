@@ -7,6 +7,7 @@ use std::path::Path;
 use std::process::Command;
 use std::time::{Duration, Instant};
 
+use calls_text::kinds::Form;
 use common::{assert_lines, from_file, piped, program, run};
 use model::call::Call;
 use model::generate::file::file;
@@ -28,7 +29,7 @@ fn short_files() {
         let input = file(&mut Random::new(seed), 200);
         assert_lines(
             &format!("seed {seed}"),
-            &piped(&input),
+            &piped(Form::Plain, &input),
             &model::program::run(&input),
         );
     }
@@ -39,7 +40,7 @@ fn longer_files() {
     for seed in 0..40 * times() {
         println!("seed {seed}");
         let input = file(&mut Random::new(1_000_000 + seed), 5000);
-        let output = from_file(&format!("longer-{seed}.calls"), &input);
+        let output = from_file(Form::Plain, &format!("longer-{seed}.calls"), &input);
         assert_lines(
             &format!("seed {seed}"),
             &output,
@@ -94,7 +95,7 @@ fn a_million_records() {
     let begun = Instant::now();
     let file = File::open(&path).expect("the file just written");
     let ran = run(
-        Command::new(program()).stdin(file),
+        Command::new(program(Form::Plain)).stdin(file),
         Duration::from_secs(600),
         |_| (),
     );

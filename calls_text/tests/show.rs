@@ -2,7 +2,7 @@
 
 mod common;
 
-use calls_text::kinds::KINDS;
+use calls_text::kinds::{Form, KINDS, ORIGINS_KINDS};
 use calls_text::refusals::refusal;
 use calls_text::show::{show, Shown};
 use calls_text::text::{parse, Parsed};
@@ -112,7 +112,10 @@ fn refused_lines() {
         "refused by 1: the map breaks a rule; the one before stays"
     );
     assert_eq!(meaning("audit", "9 1"), "refused by 1: no good map yet");
-    assert_eq!(refusal("ask", 77), "refused by 77: no number of this call");
+    assert_eq!(
+        refusal(Form::Plain, "ask", 77),
+        "refused by 77: no number of this call"
+    );
 }
 
 #[test]
@@ -174,7 +177,7 @@ fn remarks_stand_before_their_records() {
 /// No stored output has a line without a meaning, so every number that arises has its words.
 #[test]
 fn every_stored_output_has_meanings() {
-    let mut files = examples();
+    let mut files = examples(Form::Plain);
     files.retain(|(name, _)| name != "empty");
     let traces = ["sha1", "sorts"].map(|name| format!("model/tests/data/{name}"));
     let outputs = files
@@ -184,20 +187,99 @@ fn every_stored_output_has_meanings() {
     let mut inputs: Vec<Vec<u8>> = files.into_iter().map(|(_, file)| file).collect();
     inputs.extend(traces.map(|name| bytes(&format!("{name}.calls"))));
     for (name, file) in outputs.iter().zip(inputs) {
-        let output = String::from_utf8(bytes(&format!("{name}.expected"))).expect("lines are text");
-        let remarks = Vec::new();
-        let shown = show(&Parsed { file, remarks }, &output);
-        assert_eq!(shown.wrong, 0, "{name}:\n{}", shown.text);
-        assert!(!shown.text.contains("no number of this call"), "{name}");
+        has_meanings(Form::Plain, name, file);
     }
+    for (name, file) in examples(Form::Origins) {
+        has_meanings(Form::Origins, &format!("examples/calls/{name}"), file);
+    }
+}
+
+fn has_meanings(form: Form, name: &str, file: Vec<u8>) {
+    let output = String::from_utf8(bytes(&format!("{name}.expected"))).expect("lines are text");
+    let remarks = Vec::new();
+    let input = Parsed {
+        form,
+        file,
+        remarks,
+    };
+    let shown = show(&input, &output);
+    assert_eq!(shown.wrong, 0, "{name}:\n{}", shown.text);
+    assert!(!shown.text.contains("no number of this call"), "{name}");
 }
 
 #[test]
 fn words_and_numbers_are_told_apart() {
-    for (place, kind) in KINDS.iter().enumerate() {
+    for (place, kind) in Form::Origins.kinds().enumerate() {
         let same = |other: &&calls_text::kinds::Kind| {
             other.word == kind.word || other.number == kind.number
         };
-        assert_eq!(KINDS.iter().filter(same).count(), 1, "row {place}");
+        assert_eq!(Form::Origins.kinds().filter(same).count(), 1, "row {place}");
     }
+    assert_eq!(KINDS.len() + ORIGINS_KINDS.len(), 13);
+}
+
+#[test]
+fn lines_of_the_form_with_origins() {
+    for (record, line, said) in [
+        (
+            "point 8192 4104",
+            "11 0",
+            "set: the pointer at 8192, to the block of 4104 if there is one",
+        ),
+        (
+            "copy 8196 8192",
+            "12 0",
+            "set: the pointer at 8196, as the one at 8192",
+        ),
+        (
+            "live 8192 4104",
+            "13 0 1",
+            "yes, live and holds 4104: what the pointer at 8192 was set to",
+        ),
+        (
+            "live 8192 4104",
+            "13 0 0",
+            "no, not live or does not hold 4104: what the pointer at 8192 was set to",
+        ),
+        ("live 8192 4104", "13 1", "refused by 1: no good map yet"),
+        (
+            "point 0 4104",
+            "11 4",
+            "refused by 4: the pointer's cell is in neither area",
+        ),
+        (
+            "copy 0 4104",
+            "12 4",
+            "refused by 4: a pointer's cell is in neither area",
+        ),
+        (
+            "live 8192 4104",
+            "13 8",
+            "refused by 8: a reading is damaged",
+        ),
+        (
+            "point 8193 0",
+            "11 11",
+            "refused by 11: the pointer's cell is no multiple of 4, or its four bytes are not in one block",
+        ),
+        (
+            "copy 8193 0",
+            "12 11",
+            "refused by 11: a pointer's cell is no multiple of 4, or its four bytes are not in one block",
+        ),
+        (
+            "record 8193 1",
+            "2 5",
+            "refused by 5: a base must be a multiple of 4, a heap base of 8",
+        ),
+        (
+            "record_written 8192 1",
+            "10 12",
+            "refused by 12: the counter is outside 1 to 4294967295: no origin is left",
+        ),
+    ] {
+        assert_eq!(meaning(&format!("origins\n{record}"), line), said);
+    }
+    let wrong = shown("origins\nlive 8192 4104", "13 0\n");
+    assert_eq!(wrong.wrong, 1, "{}", wrong.text);
 }

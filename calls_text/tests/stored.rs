@@ -2,20 +2,23 @@
 
 mod common;
 
-use common::{assert_lines, bytes, example, examples, repository};
+use calls_text::kinds::Form;
+use common::{assert_lines, bytes, example, examples, model_run, repository};
 use model::program::run;
 
 #[test]
 fn stored_outputs_are_the_models() {
     let write = std::env::var_os("CALLS_EXPECTED").is_some_and(|value| value == "write");
-    for (name, file) in examples() {
-        let path = format!("examples/calls/{name}.expected");
-        let output = run(&file);
-        if write {
-            std::fs::write(repository(&path), output).expect("a file of examples/calls");
-        } else {
-            let what = format!("{path} (CALLS_EXPECTED=write writes it anew)");
-            assert_lines(&what, &bytes(&path), &output);
+    for form in [Form::Plain, Form::Origins] {
+        for (name, file) in examples(form) {
+            let path = format!("examples/calls/{name}.expected");
+            let output = model_run(form, &file);
+            if write {
+                std::fs::write(repository(&path), output).expect("a file of examples/calls");
+            } else {
+                let what = format!("{path} (CALLS_EXPECTED=write writes it anew)");
+                assert_lines(&what, &bytes(&path), &output);
+            }
         }
     }
 }

@@ -2,11 +2,12 @@
 
 mod common;
 
-use calls_text::kinds::KINDS;
+use calls_text::kinds::{Form, KINDS, ORIGINS_KINDS};
 use calls_text::records::Stop;
 use calls_text::text::{parse, text};
-use common::{bytes, calls, examples};
+use common::{bytes, calls, examples, parsed};
 use model::generate::file::file;
+use model::origins::generate::file::file as origins_file;
 use model::program::encode;
 use model::random::Random;
 
@@ -15,13 +16,17 @@ fn errors(text: &str) -> String {
 }
 
 fn stop(file: &[u8]) -> Stop {
-    text(file).1.expect("a file that does not decode")
+    text(Form::Plain, file)
+        .1
+        .expect("a file that does not decode")
 }
 
 /// A file's text gives the file again, whatever its bytes.
-fn round_trip(file: &[u8]) -> String {
-    let (written, _) = text(file);
-    assert_eq!(calls("round trip", &written), file, "{written}");
+fn round_trip(form: Form, file: &[u8]) -> String {
+    let (written, _) = text(form, file);
+    let again = parsed("round trip", &written);
+    assert_eq!(again.file, file, "{written}");
+    assert_eq!(again.form, form, "{written}");
     written
 }
 
@@ -114,8 +119,9 @@ fn every_bad_line_has_its_message() {
 #[test]
 fn back_to_text() {
     let written = "map 4096 64 8192 32\nrecord 4104 20\nfree 4104\nwritten 1 2\nask 3\nvalid 4 5 6\ninitialised 7 8\nnext 9\naudit\nrecord_written 10 11\n";
-    assert_eq!(text(&calls("x", written)), (written.to_owned(), None));
-    assert_eq!(text(&[]), (String::new(), None));
+    let plain = |file: &[u8]| text(Form::Plain, file);
+    assert_eq!(plain(&calls("x", written)), (written.to_owned(), None));
+    assert_eq!(plain(&[]), (String::new(), None));
 }
 
 #[test]
@@ -147,7 +153,7 @@ fn what_does_not_decode_is_named() {
         why(&[12, 0, 2, 0, 7]),
         message("the file ends after 5 of its 12 bytes")
     );
-    let (written, _) = text(&[&file[..], &[12, 0, 2, 0, 7]].concat());
+    let (written, _) = text(Form::Plain, &[&file[..], &[12, 0, 2, 0, 7]].concat());
     let remark = "# record 3 at byte 12 does not decode: the file ends after 5 of its 12 bytes";
     assert_eq!(
         written,
@@ -157,66 +163,90 @@ fn what_does_not_decode_is_named() {
 
 #[test]
 fn every_file_has_a_text() {
-    for (_, file) in examples() {
-        for end in 0..=file.len() {
-            round_trip(&file[..end]);
+    for form in [Form::Plain, Form::Origins] {
+        for (_, file) in examples(Form::Plain)
+            .into_iter()
+            .chain(examples(Form::Origins))
+        {
+            for end in 0..=file.len() {
+                round_trip(form, &file[..end]);
+            }
         }
-    }
-    for name in ["sha1", "sorts"] {
-        round_trip(&bytes(&format!("model/tests/data/{name}.calls")));
-    }
-    for seed in 0..300 {
-        println!("seed {seed}");
-        let mut random = Random::new(seed);
-        round_trip(&file(&mut random, 60));
-        let noise: Vec<u8> = (0..random.below(80))
-            .map(|_| random.number() as u8)
-            .collect();
-        round_trip(&noise);
+        for name in ["sha1", "sorts"] {
+            round_trip(form, &bytes(&format!("model/tests/data/{name}.calls")));
+        }
+        for seed in 0..300 {
+            println!("seed {seed}");
+            let mut random = Random::new(seed);
+            round_trip(form, &file(&mut random, 60));
+            round_trip(form, &origins_file(&mut random, 60));
+            let noise: Vec<u8> = (0..random.below(80))
+                .map(|_| random.number() as u8)
+                .collect();
+            round_trip(form, &noise);
+        }
     }
 }
 
 #[test]
 fn a_text_without_bytes_comes_back() {
-    for seed in 0..300 {
-        let mut random = Random::new(seed);
-        let mut lines = String::new();
-        for _ in 0..random.below(30) {
-            let kind = &KINDS[random.below(KINDS.len() as u64) as usize];
-            let fields: String = kind
-                .fields
-                .iter()
-                .map(|_| format!(" {}", random.word()))
-                .collect();
-            lines += &format!("{}{fields}\n", kind.word);
+    for (form, head) in [(Form::Plain, ""), (Form::Origins, "origins\n")] {
+        let kinds: Vec<_> = form.kinds().collect();
+        for seed in 0..300 {
+            let mut random = Random::new(seed);
+            let mut lines = head.to_owned();
+            for _ in 0..random.below(30) {
+                let kind = random.pick(&kinds);
+                let fields: String = kind
+                    .fields
+                    .iter()
+                    .map(|_| format!(" {}", random.word()))
+                    .collect();
+                lines += &format!("{}{fields}\n", kind.word);
+            }
+            let file = parsed("x", &lines).file;
+            assert_eq!(round_trip(form, &file), lines, "seed {seed}");
         }
-        assert_eq!(round_trip(&calls("x", &lines)), lines, "seed {seed}");
     }
 }
 
-/// The text that README shows is good, and has every word.
+/// The texts that README shows are good, and have every word of their form.
 #[test]
-fn the_text_of_the_readme() {
+fn the_texts_of_the_readme() {
     let readme = String::from_utf8(bytes("README.md")).expect("README is text");
     let (_, section) = readme.split_once("## Calls as text").expect("its section");
-    let shown = section.split("```").nth(1).expect("a block");
-    calls("README", shown);
-    for word in KINDS.iter().map(|kind| kind.word).chain(["raw"]) {
-        let begins = |line: &str| line.split(' ').next() == Some(word);
-        assert!(shown.lines().any(begins), "README does not show {word}");
+    let plain = KINDS.iter().map(|kind| kind.word).chain(["raw"]);
+    let more = ORIGINS_KINDS.iter().map(|kind| kind.word);
+    let forms = [
+        (Form::Plain, plain.collect::<Vec<&str>>()),
+        (Form::Origins, more.collect()),
+    ];
+    for (block, (form, words)) in section.split("```").skip(1).step_by(2).zip(forms) {
+        assert_eq!(parsed("README", block).form, form);
+        for word in words {
+            let begins = |line: &str| line.split(' ').next() == Some(word);
+            assert!(block.lines().any(begins), "README does not show {word}");
+        }
     }
 }
 
-/// The table of kinds against the model's own.
+/// The tables of kinds against the models' own.
 #[test]
 fn kinds_and_lengths_are_the_models() {
     for number in 0..=u16::MAX {
         for fields in 0..8 {
             let record = encode(number, &vec![4104; fields]);
-            let ours = text(&record).1.is_none();
+            let decodes = |form| text(form, &record).1.is_none();
+            let plain = model::program::decode(&record).is_some();
+            let origins = model::origins::program::decode(&record).is_some();
             assert_eq!(
-                ours,
-                model::program::decode(&record).is_some(),
+                decodes(Form::Plain),
+                plain,
+                "kind {number}, {fields} fields"
+            );
+            assert_eq!(
+                decodes(Form::Origins),
+                origins,
                 "kind {number}, {fields} fields"
             );
         }

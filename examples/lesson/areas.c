@@ -18,7 +18,19 @@ static uint8_t heap_shadow[HEAP_SIZE];
 static uint8_t primary_shadow[STACK_SIZE];
 static uint8_t secondary_shadow[STACK_SIZE];
 
+#ifdef ORIGINS
+static uint8_t heap_cells[BLOCK_MONITOR_CELLS * HEAP_SIZE];
+static uint8_t stack_cells[BLOCK_MONITOR_CELLS * STACK_SIZE];
+
+struct block_monitor_origins monitor = {
+    .heap_cells = heap_cells,
+    .heap_cells_length = sizeof heap_cells,
+    .stack_cells = stack_cells,
+    .stack_cells_length = sizeof stack_cells,
+    .counter = 1,
+#else
 const struct block_monitor monitor = {
+#endif
     .map = {HEAP_START, HEAP_SIZE, STACK_START, STACK_SIZE},
     .heap = heap_shadow,
     .heap_length = sizeof heap_shadow,
@@ -68,6 +80,15 @@ uint32_t address_of(const void *pointer)
     if (byte >= stack_byte && byte - stack_byte < STACK_SIZE)
         return STACK_START + (uint32_t)(byte - stack_byte);
     return pointer == NULL ? 0 : NOWHERE;
+}
+
+void *pointer_to(uint32_t address)
+{
+    if (address >= HEAP_START && address - HEAP_START < HEAP_SIZE)
+        return &heap.bytes[address - HEAP_START];
+    if (address >= STACK_START && address - STACK_START < STACK_SIZE)
+        return &stack.bytes[address - STACK_START];
+    return NULL;
 }
 
 /* The bytes of the free unit at a place and of the free units right behind it. */

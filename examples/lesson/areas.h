@@ -2,7 +2,7 @@
 #ifndef AREAS_H
 #define AREAS_H
 
-#include "block_monitor.h"
+#include "block_monitor_origins.h"
 
 /* The chip's sizes. The starts are chosen freely: multiples of 8, at least 8, areas apart. */
 enum {
@@ -12,8 +12,17 @@ enum {
     STACK_SIZE = BLOCK_MONITOR_LARGEST_STACK
 };
 
-/* Map and shadows for every call of the monitor. */
+/*
+ * What every call of the monitor takes: map and shadows. Built with -DORIGINS the lesson uses the form with origins, with cells and counter too.
+ * FORM(ask) is the call ask of the form that is used.
+ */
+#ifdef ORIGINS
+extern struct block_monitor_origins monitor;
+#define FORM(call) monitor_origins_##call
+#else
 extern const struct block_monitor monitor;
+#define FORM(call) monitor_##call
+#endif
 
 /* Before anything else: empty heap, empty stack. */
 void areas_start(void);
@@ -24,6 +33,9 @@ void areas_start(void);
  */
 enum { NOWHERE = 1 };
 uint32_t address_of(const void *pointer);
+
+/* The way back: the byte of either area that has this address; NULL for any other. A pointer that is kept in the areas is such an address. */
+void *pointer_to(uint32_t address);
 
 /* First fit. The base is a multiple of 8, and the 8 bytes before it are no other block's. NULL if there is no room. */
 void *heap_allocate(uint32_t length);

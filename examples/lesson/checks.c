@@ -39,19 +39,22 @@ static const struct ended *last_holder(uint32_t address)
     return NULL;
 }
 
-/* In words, the block that holds an address. */
-static void print_block(uint32_t address)
+/* In words, the block that holds an address. 1 if there is one. */
+static int print_block(uint32_t address)
 {
     struct block_monitor_block block;
     const struct ended *gone = last_holder(address);
 
-    if (monitor_ask(&monitor, address, &block) == BLOCK_MONITOR_ACCEPTED)
+    if (FORM(ask)(&monitor, address, &block) == BLOCK_MONITOR_ACCEPTED) {
         printf("block (base 0x%" PRIx32 ", length %" PRIu32 ")", block.base, block.length);
-    else if (gone != NULL)
+        return 1;
+    }
+    if (gone != NULL)
         printf("no block since %s:%d, where block (base 0x%" PRIx32 ", length %" PRIu32 ") ended", gone->where.file, gone->where.line,
                gone->base, gone->length);
     else
         printf("no block");
+    return 0;
 }
 
 /* How a line begins: where, and what was tried. */
@@ -81,14 +84,14 @@ static void stop_refused(uint32_t number)
 static void must_be_valid(const char *what, uint32_t address, uint32_t n, uint32_t from, struct place where)
 {
     uint32_t valid, first_valid;
-    uint32_t number = monitor_valid(&monitor, address, n, from, &valid);
+    uint32_t number = FORM(valid)(&monitor, address, n, from, &valid);
 
     if (valid)
         return;
     print_use(what, n, address, where);
     if (number != BLOCK_MONITOR_ACCEPTED)
         stop_refused(number);
-    monitor_valid(&monitor, address, 1, from, &first_valid);
+    FORM(valid)(&monitor, address, 1, from, &first_valid);
     printf(first_valid ? "runs past the end of " : "pointer into ");
     print_block(from);
     if (!first_valid && address != from) {
@@ -100,7 +103,7 @@ static void must_be_valid(const char *what, uint32_t address, uint32_t n, uint32
 
 void check_start(struct place where)
 {
-    uint32_t number = monitor_clear(&monitor);
+    uint32_t number = FORM(clear)(&monitor);
 
     if (number == BLOCK_MONITOR_ACCEPTED)
         return;
@@ -121,22 +124,22 @@ void check_record(const void *pointer, uint32_t length, struct place where)
 {
     uint32_t base = address_of(pointer);
 
-    must_be_recorded(monitor_record(&monitor, base, length), base, length, where);
+    must_be_recorded(FORM(record)(&monitor, base, length), base, length, where);
 }
 
 void check_static(const void *pointer, uint32_t length, struct place where)
 {
     uint32_t base = address_of(pointer);
 
-    must_be_recorded(monitor_record_written(&monitor, base, length), base, length, where);
+    must_be_recorded(FORM(record_written)(&monitor, base, length), base, length, where);
 }
 
 void check_free(const char *what, const void *pointer, struct place where)
 {
     uint32_t address = address_of(pointer);
     struct block_monitor_block block;
-    uint32_t asked = monitor_ask(&monitor, address, &block);
-    uint32_t number = monitor_free(&monitor, address);
+    uint32_t asked = FORM(ask)(&monitor, address, &block);
+    uint32_t number = FORM(free)(&monitor, address);
 
     if (number == BLOCK_MONITOR_ACCEPTED) {
         if (asked == BLOCK_MONITOR_ACCEPTED) /* with NULL no block ends */
@@ -162,7 +165,7 @@ void check_read(const void *pointer, uint32_t n, const void *from, struct place 
     uint32_t number, written;
 
     must_be_valid("read", address, n, address_of(from), where);
-    number = monitor_initialised(&monitor, address, n, &written);
+    number = FORM(initialised)(&monitor, address, n, &written);
     if (written)
         return;
     print_use("read", n, address, where);
@@ -179,17 +182,58 @@ void check_write(const void *pointer, uint32_t n, const void *from, struct place
     uint32_t number;
 
     must_be_valid("write", address, n, address_of(from), where);
-    number = monitor_written(&monitor, address, n);
+    number = FORM(written)(&monitor, address, n);
     if (number == BLOCK_MONITOR_ACCEPTED)
         return;
     print_use("write", n, address, where);
     stop_refused(number);
 }
 
+#ifdef ORIGINS
+void check_keep(const void *cell, const void *pointer, struct place where)
+{
+    uint32_t number = monitor_origins_point(&monitor, address_of(cell), address_of(pointer));
+
+    if (number == BLOCK_MONITOR_ACCEPTED)
+        return;
+    print_use("pointer", sizeof(uint32_t), address_of(cell), where);
+    stop_refused(number);
+}
+
+void check_kept(const void *cell, const void *pointer, struct place where)
+{
+    uint32_t address = address_of(pointer);
+    const struct ended *gone = last_holder(address);
+    uint32_t live;
+    uint32_t number = monitor_origins_live(&monitor, address_of(cell), address, &live);
+
+    if (live)
+        return;
+    print_use("pointer", sizeof(uint32_t), address_of(cell), where);
+    if (number != BLOCK_MONITOR_ACCEPTED)
+        stop_refused(number);
+    printf("0x%" PRIx32 " is not in the block that it was set to, but in ", address);
+    if (print_block(address) && gone != NULL)
+        printf("; block (base 0x%" PRIx32 ", length %" PRIu32 ") ended there at %s:%d", gone->base, gone->length, gone->where.file,
+               gone->where.line);
+    stop();
+}
+#else
+void check_keep(const void *cell, const void *pointer, struct place where)
+{
+    (void)cell, (void)pointer, (void)where;
+}
+
+void check_kept(const void *cell, const void *pointer, struct place where)
+{
+    (void)cell, (void)pointer, (void)where;
+}
+#endif
+
 void check_end(struct place where)
 {
     struct block_monitor_totals totals;
-    uint32_t number = monitor_audit(&monitor, &totals);
+    uint32_t number = FORM(audit)(&monitor, &totals);
 
     if (number != BLOCK_MONITOR_ACCEPTED) {
         print_call("audit", where);

@@ -37,6 +37,13 @@ struct place {
 /* Before a write of n bytes, which count as written from then on. */
 #define CHECK_WRITE(pointer, n, from) check_write(pointer, n, from, HERE)
 
+/*
+ * For a pointer that is kept in lent memory, four bytes that hold an address: where it is set, after the write; and before it is used, after the
+ * read of it. The plain form knows nothing of the allocation that a pointer was set to: there neither stops anything.
+ */
+#define CHECK_KEEP(cell, pointer) check_keep(cell, pointer, HERE)
+#define CHECK_KEPT(cell, pointer) check_kept(cell, pointer, HERE)
+
 /* After all others: prints how many blocks were not released. */
 #define CHECK_END() check_end(HERE)
 
@@ -46,6 +53,8 @@ void check_static(const void *pointer, uint32_t length, struct place where);
 void check_free(const char *what, const void *pointer, struct place where);
 void check_read(const void *pointer, uint32_t n, const void *from, struct place where);
 void check_write(const void *pointer, uint32_t n, const void *from, struct place where);
+void check_keep(const void *cell, const void *pointer, struct place where);
+void check_kept(const void *cell, const void *pointer, struct place where);
 void check_end(struct place where);
 
 #endif

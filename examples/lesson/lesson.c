@@ -1,7 +1,7 @@
 /*
  * A vocabulary exercise on lent memory, with a check at every allocation, release and pointer use.
  *
- * Built with -DMISTAKE=n it has one mistake, n from 1 to 7; without, it has none. Each place says which.
+ * Built with -DMISTAKE=n it has one mistake, n from 1 to 8; without, it has none. Each place says which.
  */
 #include <inttypes.h>
 #include <stdio.h>
@@ -33,6 +33,7 @@ struct answer {
     uint32_t word;
     uint32_t tries;
     uint32_t right;
+    uint32_t hint; /* a pointer to the hint on the heap, kept as its address; 0 where the word has none */
 };
 
 /* How many letters the learner has typed. A static object: zero before anything is written to it. */
@@ -77,10 +78,15 @@ static void print_text(const char *text)
     }
 }
 
-static void print_hint(const char *hint)
+static void print_hint(const struct answer *answer)
 {
+    const char *hint;
+
+    CHECK_READ(&answer->hint, sizeof answer->hint, answer);
+    hint = pointer_to(answer->hint);
     if (hint == NULL)
         return;
+    CHECK_KEPT(&answer->hint, hint);
     printf("hint: ");
     print_text(hint);
     printf("\n");
@@ -136,7 +142,7 @@ static void type_in(char *buffer, const char *letters)
     count_letters(i);
 }
 
-static void start_answer(struct answer *answer, uint32_t word)
+static void start_answer(struct answer *answer, uint32_t word, const char *hint)
 {
     CHECK_WRITE(&answer->word, sizeof answer->word, answer);
     answer->word = word;
@@ -146,6 +152,9 @@ static void start_answer(struct answer *answer, uint32_t word)
     }
     CHECK_WRITE(&answer->right, sizeof answer->right, answer);
     answer->right = 0;
+    CHECK_WRITE(&answer->hint, sizeof answer->hint, answer);
+    answer->hint = address_of(hint);
+    CHECK_KEEP(&answer->hint, hint);
 }
 
 /* One try: 1 if there is to be another. */
@@ -191,13 +200,18 @@ static void exercise(uint32_t word, uint32_t *points, uint32_t *tries)
     struct answer *answer = stack_push(sizeof *answer);
     CHECK_RECORD(answer, sizeof *answer);
 
-    start_answer(answer, word);
+    start_answer(answer, word, hint);
     if (MISTAKE == 3) { /* 3: stem is still used */
         CHECK_FREE(solution);
         heap_release(solution);
     }
+    if (MISTAKE == 8 && hint != NULL) { /* 8: another text takes the place, and the answer still has its pointer there */
+        CHECK_FREE(hint);
+        heap_release(hint);
+        hint = new_text("well done");
+    }
     while (try_word(answer, prompt, stem, typed))
-        print_hint(hint);
+        print_hint(answer);
     give_points(answer, points, tries);
 
     CHECK_LEAVE(answer);

@@ -241,6 +241,6 @@ impl Lent<'_> {
     }
 }
 
-fn put(shadow: &mut [u8], position: usize, number: u32) {
+pub(crate) fn put(shadow: &mut [u8], position: usize, number: u32) {
     shadow[position..position + 4].copy_from_slice(&number.to_le_bytes());
 }

@@ -2,7 +2,8 @@
 
 use crate::map::NULL;
 
-/// The numbers of refusal, in the order in which the lowest wins.
+/// The numbers of refusal. The lowest wins, but for 12, which is given after 6,
+/// and 11, after 8.
 pub mod refusal {
     pub const BAD_MAP: u32 = 1;
     pub const SHADOW_LENGTH: u32 = 2;
@@ -14,6 +15,8 @@ pub mod refusal {
     pub const DAMAGED: u32 = 8;
     pub const UNDECODABLE: u32 = 9;
     pub const TOO_LARGE: u32 = 10;
+    pub const NO_CELL: u32 = 11;
+    pub const USED_UP: u32 = 12;
 }
 
 /// A call with its arguments, in the order of the paper.

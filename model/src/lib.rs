@@ -18,6 +18,7 @@
 //! - [`program`]: the calls program, run on a plain list.
 //! - [`notation`]: the one-line notation of the example files.
 //! - [`samples`]: the samples program, which answers lines of that notation.
+//! - [`origins`]: the form with origins, with its own models and program.
 //! - [`random`], [`generate`]: seeded maps, calls, shadows and input files.
 
 pub mod block;
@@ -28,6 +29,7 @@ pub mod generate;
 pub mod image;
 pub mod map;
 pub mod notation;
+pub mod origins;
 pub mod plain;
 pub mod plain_btree;
 pub mod program;

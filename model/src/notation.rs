@@ -117,7 +117,7 @@ pub fn records(text: &str) -> impl Iterator<Item = Option<Vec<u8>>> + '_ {
     })
 }
 
-fn lines_of(text: &str) -> Vec<u8> {
+pub(crate) fn lines_of(text: &str) -> Vec<u8> {
     text.split(';')
         .map(str::trim)
         .filter(|line| !line.is_empty())
@@ -172,7 +172,7 @@ fn bytes_of(text: &str) -> Option<Vec<Bytes>> {
         .collect()
 }
 
-fn call_of(text: &str) -> Option<Call> {
+pub(crate) fn call_of(text: &str) -> Option<Call> {
     let text = text.trim_matches(' ');
     let (name, rest) = text.split_once(' ').unwrap_or((text, ""));
     let fields = numbers_of(rest)?;
@@ -193,7 +193,7 @@ fn call_of(text: &str) -> Option<Call> {
     }
 }
 
-fn answer_of(text: &str) -> Option<Answer> {
+pub(crate) fn answer_of(text: &str) -> Option<Answer> {
     let numbers = numbers_of(text)?;
     let (&number, stated) = numbers.split_first()?;
     let mut fields = NO_FIELDS;
@@ -201,17 +201,17 @@ fn answer_of(text: &str) -> Option<Answer> {
     Some(Answer { number, fields })
 }
 
-fn numbers_of(text: &str) -> Option<Vec<u32>> {
+pub(crate) fn numbers_of(text: &str) -> Option<Vec<u32>> {
     words(text).map(number_of).collect()
 }
 
 /// What stands between spaces.
-fn words(text: &str) -> impl Iterator<Item = &str> {
+pub(crate) fn words(text: &str) -> impl Iterator<Item = &str> {
     text.split(' ').filter(|word| !word.is_empty())
 }
 
 /// A number in digits alone: the library's own parser takes a sign too.
-fn number_of<T: FromStr>(word: &str) -> Option<T> {
+pub(crate) fn number_of<T: FromStr>(word: &str) -> Option<T> {
     let digits = word.bytes().all(|byte| byte.is_ascii_digit());
     digits.then(|| word.parse().ok())?
 }

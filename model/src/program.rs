@@ -8,7 +8,7 @@ use crate::plain::{List, PlainList};
 pub const LARGEST_HEAP: u32 = 32_768;
 pub const LARGEST_STACK: u32 = 16_384;
 
-const MAP_KIND: u16 = 1;
+pub(crate) const MAP_KIND: u16 = 1;
 
 /// A decoded record.
 #[derive(Clone, Copy, Debug, PartialEq, Eq)]
@@ -39,6 +39,16 @@ pub fn run_on<L: List>(mut input: &[u8]) -> Vec<u8> {
 
 /// The first record of the input and what follows it, if it decodes.
 pub fn decode(input: &[u8]) -> Option<(Record, &[u8])> {
+    let (kind, fields, rest) = fields(input)?;
+    let record = match map(kind, &fields) {
+        Some(map) => Record::Map(map),
+        None => Record::Call(kind, Call::from_record(kind, &fields)?),
+    };
+    Some((record, rest))
+}
+
+/// Kind and fields of the first record, and what follows it, whatever the kind.
+pub(crate) fn fields(input: &[u8]) -> Option<(u16, Vec<u32>, &[u8])> {
     let &[low, high, kind_low, kind_high, ..] = input else {
         return None;
     };
@@ -53,15 +63,16 @@ pub fn decode(input: &[u8]) -> Option<(Record, &[u8])> {
         .chunks_exact(4)
         .map(|four| u32::from_le_bytes([four[0], four[1], four[2], four[3]]))
         .collect();
-    Some((record(kind, &fields)?, &input[length..]))
+    Some((kind, fields, &input[length..]))
 }
 
-fn record(kind: u16, fields: &[u32]) -> Option<Record> {
+/// The map of a map's record.
+pub(crate) fn map(kind: u16, fields: &[u32]) -> Option<Map> {
     match (kind, fields) {
-        (MAP_KIND, &[heap_start, heap_size, stack_start, stack_size]) => Some(Record::Map(
-            Map::new(heap_start, heap_size, stack_start, stack_size),
-        )),
-        _ => Some(Record::Call(kind, Call::from_record(kind, fields)?)),
+        (MAP_KIND, &[heap_start, heap_size, stack_start, stack_size]) => {
+            Some(Map::new(heap_start, heap_size, stack_start, stack_size))
+        }
+        _ => None,
     }
 }
 
@@ -103,12 +114,7 @@ impl<L: List> Program<L> {
     }
 
     fn accept(&mut self, map: Map) -> Outcome {
-        if !map.good() {
-            return Err(refusal::BAD_MAP);
-        }
-        if map.heap_size > LARGEST_HEAP || map.stack_size > LARGEST_STACK {
-            return Err(refusal::TOO_LARGE);
-        }
+        taken(map)?;
         self.list = Some(L::new(map));
         Ok(NO_FIELDS)
     }
@@ -121,8 +127,19 @@ impl<L: List> Program<L> {
     }
 }
 
+/// Whether the program takes a map; else the number of its refusal.
+pub(crate) fn taken(map: Map) -> Result<(), u32> {
+    if !map.good() {
+        return Err(refusal::BAD_MAP);
+    }
+    if map.heap_size > LARGEST_HEAP || map.stack_size > LARGEST_STACK {
+        return Err(refusal::TOO_LARGE);
+    }
+    Ok(())
+}
+
 /// One line: kind, number and, if accepted, the answer fields.
-fn render(kind: u16, answer: Answer, answer_fields: usize) -> String {
+pub(crate) fn render(kind: u16, answer: Answer, answer_fields: usize) -> String {
     let mut words = vec![kind.to_string(), answer.number.to_string()];
     if answer.number == 0 {
         let fields = &answer.fields[..answer_fields];

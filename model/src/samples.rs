@@ -2,14 +2,16 @@
 //! in, the same lines with them out.
 //!
 //! After a call each shadow that it changed is told, from the first byte that
-//! changed to the last, so that a line says every shadow byte afterwards. A
-//! line that is no sample gets a question mark.
+//! changed to the last, so that a line says every shadow byte afterwards; in the
+//! form with origins the counter too, where it changed. A line that is no sample
+//! gets a question mark.
 
 use crate::bytes;
-use crate::call::{Answer, Call};
-use crate::image::Shadows;
+use crate::call::Answer;
 use crate::notation::{asked, records, Shadow, EXAMPLE_MAP};
-use crate::program::run;
+use crate::origins;
+use crate::origins::notation::Lent;
+use crate::program;
 
 /// A longer line is cut here and is no sample.
 pub const LONGEST_LINE: usize = 4095;
@@ -38,21 +40,25 @@ fn right_hand_side(line: &str) -> String {
     if line.is_empty() || line.starts_with('#') {
         return String::new();
     }
-    let side = if let Some(question) = line.strip_prefix("on:") {
-        call_side(question).unwrap_or_else(|| "?".to_owned())
-    } else if let Some(records) = line.strip_prefix("run:") {
-        run_side(records)
+    let known = |head: &str| line.strip_prefix(head);
+    let side = if let Some(question) = known("on:") {
+        call_side(question)
+    } else if let Some(records) = known("run:") {
+        Some(run_side(records, program::run))
+    } else if let Some(question) = known("on origins:") {
+        origins_call_side(question)
     } else {
-        "?".to_owned()
+        known("run origins:").map(|records| run_side(records, origins::program::run))
     };
+    let side = side.unwrap_or_else(|| "?".to_owned());
     match side.as_str() {
         "" => " =>".to_owned(),
         side => format!(" => {side}"),
     }
 }
 
-/// The lines of the calls program; text that is no record ends them.
-fn run_side(text: &str) -> String {
+/// The lines of a calls program; text that is no record ends them.
+fn run_side(text: &str, run: fn(&[u8]) -> Vec<u8>) -> String {
     let whole = |record: Option<Vec<u8>>| record.filter(|bytes| bytes.len() <= LONGEST_RECORD);
     let known: Vec<_> = records(text).map_while(whole).collect();
     let lines = String::from_utf8(run(&known.concat())).expect("lines are text");
@@ -73,12 +79,31 @@ fn call_side(question: &str) -> Option<String> {
         &mut after.secondary,
         call,
     );
-    Some(answer_text(call, answer) + &changes(&before, &after))
+    let changed = Shadow::ALL.into_iter().filter_map(|shadow| {
+        let told = change(shadow.of(&before), shadow.of(&after))?;
+        Some(format!(" {}@{told}", shadow.name()))
+    });
+    Some(answer_text(call.answer_fields(), answer) + &then(changed.collect()))
+}
+
+fn origins_call_side(question: &str) -> Option<String> {
+    let (before, call) = origins::notation::asked(question)?;
+    let mut after = before.clone();
+    let answer = origins::bytes::call(EXAMPLE_MAP, &mut after, call);
+    let changed = Lent::ALL.into_iter().filter_map(|lent| {
+        let told = change(lent.of(&before), lent.of(&after))?;
+        Some(format!(" {}@{told}", lent.name()))
+    });
+    let mut changed: String = changed.collect();
+    if after.counter != before.counter {
+        changed += &format!(" counter={}", after.counter);
+    }
+    Some(answer_text(call.answer_fields(), answer) + &then(changed))
 }
 
 /// The number and as many fields as the call has, on a refusal too.
-fn answer_text(call: Call, answer: Answer) -> String {
-    let fields = &answer.fields[..call.answer_fields()];
+fn answer_text(fields: usize, answer: Answer) -> String {
+    let fields = &answer.fields[..fields];
     let words: Vec<String> = [answer.number]
         .iter()
         .chain(fields)
@@ -87,22 +112,18 @@ fn answer_text(call: Call, answer: Answer) -> String {
     words.join(" ")
 }
 
-fn changes(before: &Shadows, after: &Shadows) -> String {
-    let told: String = Shadow::ALL
-        .into_iter()
-        .filter_map(|shadow| change(shadow, before, after))
-        .collect();
-    if told.is_empty() {
-        return told;
+fn then(changed: String) -> String {
+    match changed.as_str() {
+        "" => String::new(),
+        changed => format!(" then{changed}"),
     }
-    format!(" then{told}")
 }
 
-fn change(shadow: Shadow, before: &Shadows, after: &Shadows) -> Option<String> {
-    let (was, is) = (shadow.of(before), shadow.of(after));
+/// The first position that changed, and the bytes from there to the last.
+fn change(was: &[u8], is: &[u8]) -> Option<String> {
     let differs = |&place: &usize| was[place] != is[place];
     let first = (0..is.len()).find(differs)?;
     let last = (0..is.len()).rfind(differs)?;
     let bytes: Vec<String> = is[first..=last].iter().map(u8::to_string).collect();
-    Some(format!(" {}@{first}={}", shadow.name(), bytes.join(",")))
+    Some(format!("{first}={}", bytes.join(",")))
 }

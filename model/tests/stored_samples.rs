@@ -14,12 +14,13 @@ use model::call::Call;
 use model::decode::decode;
 use model::image::{image, Shadows};
 use model::notation::{example, put, Example, OneCall, EXAMPLE_MAP};
+use model::origins::notation as origins;
 use model::plain::{List, PlainList};
 use model::reading::View;
 use model::samples::{answered, LONGEST_LINE};
 
-/// The files of tests/data whose right-hand sides are stated.
-const STATED: [&str; 9] = [
+/// The files of tests/data whose right-hand sides are stated and stored.
+const STATED: [&str; 11] = [
     "document-01.txt",
     "open-points.txt",
     "damage.txt",
@@ -29,6 +30,8 @@ const STATED: [&str; 9] = [
     "record-written.txt",
     "free-null.txt",
     "marks.txt",
+    "origins-open-points.txt",
+    "origins.txt",
 ];
 
 fn stored(name: &str) -> String {
@@ -100,6 +103,10 @@ fn every_stated_example_is_stored_with_its_right_hand_side() {
             }
             let numbers = |side: &str| side.split(" then ").next().map(str::to_owned);
             assert_eq!(numbers(side), numbers(stated), "{name}: {line}");
+            if question.starts_with("on origins:") {
+                stored_with_origins(&question, side, stated);
+                continue;
+            }
             let after = after(&one_call(&question, side));
             for part in &one_call(&question, stated).then {
                 let bytes = &part.shadow.of(&after)[part.position..][..part.bytes.len()];
@@ -107,6 +114,20 @@ fn every_stated_example_is_stored_with_its_right_hand_side() {
             }
         }
     }
+}
+
+/// What is stated of the state afterwards, beside the whole of it that is stored.
+fn stored_with_origins(question: &str, side: &str, stated: &str) {
+    let told = |side: &str| match origins::example(&format!("{question} => {side}")) {
+        Some(origins::Example::On(told)) => told,
+        _ => panic!("no call: {question} => {side}"),
+    };
+    let (whole, stated) = (told(side), told(stated));
+    let mut after = whole.state;
+    origins::put(&mut after, &whole.then).expect("bytes of the state");
+    let kept = after.clone();
+    origins::put(&mut after, &stated.then).expect("bytes of the state");
+    assert_eq!(after, kept, "{question}");
 }
 
 #[test]

@@ -2,6 +2,7 @@
 
 use super::*;
 use crate::case::{Case, Group};
+use crate::targets::Target;
 use model::call::Call;
 
 /// Two cases in three rounds, of which only the first is about marks; the earlier build takes part or not.
@@ -15,6 +16,7 @@ fn report(earlier: bool) -> Report {
                 Case::new("some marks", Group::Marking, 0, marks),
                 Case::new("an ask", Group::Whole, 0, asks),
             ],
+            targets: |_, _| Vec::new(),
         },
         titles: vec!["monitor", "before"],
         rows: vec![
@@ -40,8 +42,28 @@ fn report(earlier: bool) -> Report {
     report
 }
 
-fn page(tables: &str, marks: &str) -> String {
-    format!("# Page\n\n{BEGIN}{tables}{END}\n\nBetween.\n\n{BEGIN_MARKS}{marks}{END}\n\nLast.\n")
+/// The form with origins beside the plain form, one case, the target missed.
+fn forms() -> Report {
+    let mut report = report(true);
+    report.plan.cases.truncate(1);
+    report.plan.targets = |case, _| {
+        vec![Target {
+            case,
+            peer: "plain",
+            most: 0.5,
+        }]
+    };
+    report.titles = vec!["origins", "plain", "memset"];
+    report.rows.truncate(1);
+    report.rows[0].push(Some(vec![1.0, 1.0, 1.0]));
+    report.counts = Some(vec![vec![Some(50.0), Some(200.0), None]]);
+    report
+}
+
+fn page(tables: &str, forms: &str, marks: &str) -> String {
+    format!(
+        "# Page\n\n{BEGIN}{tables}{END}\n\n{BEGIN_FORMS}{forms}{END}\n\nBetween.\n\n{BEGIN_MARKS}{marks}{END}\n\nLast.\n"
+    )
 }
 
 /// Medians 8 and 3; ratios 0.25, 0.75 and 0.9.
@@ -64,17 +86,27 @@ fn marks_uncounted() {
     assert!(table.ends_with("| some marks | 8.00 | 3.00 | 0.75 | – | – | – |\n"));
 }
 
+/// Medians 3, 8 and 1; ratios to the plain form 0.25, 0.75 and 0.9, to memset 2, 3 and 9.
+#[test]
+fn forms_side_by_side() {
+    let text = forms().form_text();
+    assert!(text.contains("| some marks | 0.5 × plain | 0.75 | **missed** |\n"));
+    assert!(text.ends_with("| some marks | 3.00 | 8.00 | 0.75 | 1.00 | 3.00 | 50 | 200 | 0.25 |\n"));
+}
+
 /// Each kind of run leaves what the other writes.
 #[test]
 fn places_in_the_page() {
-    let old = page("old tables", "old marks");
-    let marks = report(true).page(&old);
+    let old = page("old tables", "old forms", "old marks");
+    let marks = report(true).page(&old, &forms());
     assert!(marks.contains("old tables") && !marks.contains("old marks"));
+    assert!(marks.contains("old forms"));
     assert!(marks.contains("- Before: commit 0123456\n\nBoth builds"));
     assert!(marks.ends_with(&format!("| 0.25 |\n{END}\n\nLast.\n")));
     assert!(!marks.contains("an ask"));
-    let tables = report(false).page(&old);
+    let tables = report(false).page(&old, &forms());
     assert!(tables.contains("old marks") && !tables.contains("old tables"));
+    assert!(!tables.contains("old forms") && tables.contains("| some marks | 0.5 × plain |"));
     assert!(tables.contains("| an ask | 2.00 |"));
     assert!(tables.contains(&format!("{END}\n\nBetween.")));
 }
@@ -82,8 +114,8 @@ fn places_in_the_page() {
 #[test]
 fn page_has_its_places() {
     let page = include_str!("../../../docs/BENCHMARKS.md");
-    for begin in [BEGIN, BEGIN_MARKS] {
+    for begin in [BEGIN, BEGIN_FORMS, BEGIN_MARKS] {
         assert_eq!(page.matches(begin).count(), 1, "{begin}");
     }
-    assert_eq!(page.matches(END).count(), 2);
+    assert_eq!(page.matches(END).count(), 3);
 }

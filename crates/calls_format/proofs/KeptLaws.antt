@@ -1,31 +1,29 @@
--- The first bytes of a buffer as a shadow: what a call on them leaves, and what a request leaves. Assumes nothing.
+-- The first bytes of a buffer as a shadow: what a call on them leaves, and what an accepted map leaves. Assumes nothing.
 use mathlib.Core.Path.{_≡_, refl, sym, ap, _∙_}
-use mathlib.Core.Bool.{true, false}
+use mathlib.Core.Bool.{true}
 use mathlib.Core.List.{List, _++_, append-nil}
-use mathlib.Core.Logic.{_≢_}
-use Prim.Native.Nat.{ℕ, zero, suc, _≤_, min}
+use Prim.Native.Nat.{ℕ, _≤_, min}
 use native.Mathlib.Omega.{arith}
-use lib.ListN.{length, take, drop, length-take, drop-of-length-le}
+use lib.ListN.{length, take, drop, drop-of-length-le}
 use lib.Dec.{leb, ltb}
 use lib.Seq.{take-all, take-at, length-take-le}
 use borrow.Author.Tests.{leb-true, leb-false, ltb-false}
 use Rattle.number.proofs.TestLaws.{Test, is-true, is-false, test, or-false}
 use Rattle.map.specs.declared.Map.{Map}
-use Rattle.plain.specs.Call.{Call, Answer, refusal, done, clear, unless}
+use Rattle.plain.specs.Call.{Call, Answer, done, clear}
 use Rattle.plain.specs.ShadowCalls.{shadowStep}
-use Rattle.shadows.specs.Shadows.{zeroShadows}
+use Rattle.shadows.specs.Shadows.{zeroShadows, lengthsFit}
 use Rattle.shadows.proofs.ShadowLaws.{true-fit}
 use Rattle.monitor_base.specs.Calls as monitor
 use Rattle.monitor_base.proofs.CallLaws.{call-step}
 use Rattle.calls_format.specs.Kept.{parts, kept}
-use Rattle.calls_format.specs.Running.{State, zeroMap, firstState, mapNumber, aboveSizes, serve, underMap}
-use Rattle.calls_format.specs.Records.{newMap, call}
-use Rattle.calls_format.proofs.RunningLaws.{accepted-good}
+use Rattle.calls_format.specs.Running.{zeroMap, firstState, mapNumber, aboveSizes}
+use Rattle.calls_format.proofs.ServeLaws.{accepted-good}
 
 -- ---- a call
 
 -- taking no more than there is
-take-min : (xs : List ℕ) (size n : ℕ) → n ≡ min size (length xs) → take n xs ≡ take size xs
+pub take-min : (xs : List ℕ) (size n : ℕ) → n ≡ min size (length xs) → take n xs ≡ take size xs
 take-min xs size n e = go (test (leb size (length xs)))
   where
     go : Test (leb size (length xs)) → take n xs ≡ take size xs
@@ -35,7 +33,7 @@ take-min xs size n e = go (test (leb size (length xs)))
         take-all n xs (omega (arith, e, h)) ∙ sym (take-all size xs (omega (arith, h)))
 
 -- a part that took the place of the first bytes
-part-back : (xs last : List ℕ) (size n : ℕ) → n ≡ min size (length xs) → length last ≡ length (take n xs) → take size (last ++ drop n xs) ≡ last
+pub part-back : (xs last : List ℕ) (size n : ℕ) → n ≡ min size (length xs) → length last ≡ length (take n xs) → take size (last ++ drop n xs) ≡ last
 part-back xs last size n e l = go (test (leb size (length xs)))
   where
     long : length last ≡ n
@@ -58,46 +56,33 @@ on-parts m c r h p s h′ p′ s′ i j k ei ej ek lh lp ls e =
     rw (part-back h h′ (m .«heap_size») i ei lh, part-back p p′ (m .«stack_size») j ej lp, part-back s s′ (m .«stack_size») k ek ls)
     (e ∙ rw (take-min h (m .«heap_size») i ei, take-min p (m .«stack_size») j ej, take-min s (m .«stack_size») k ek) refl)
 
--- ---- a request
+-- ---- an accepted map
 
 -- before any map no byte of the buffers counts
 pub first-kept : (h p s : List ℕ) → kept zeroMap h p s ≡ firstState
 first-kept h p s = refl
 
-pub served-call : (m : Map) (c : Call) (r : Answer) (h p s h′ p′ s′ : List ℕ) → (parts m h′ p′ s′, r) ≡ monitor.call m c (parts m h p s)
-    → (kept m h′ p′ s′, r) ≡ serve (call c) (kept m h p s)
-unfolding serve
-served-call m c r h p s h′ p′ s′ e = ap (underMap m) e
-
-pub served-refused : (m : Map) (k : ℕ) (s : State) → k ≡ mapNumber m → k ≢ 0 → (s, refusal k) ≡ serve (newMap m) s
-unfolding serve
-served-refused m k s e n = rw (← e) (go k n)
-  where
-    go : (k : ℕ) → k ≢ 0 → (s, refusal k) ≡ unless k s ((m, zeroShadows m), done)
-    go zero n = absurd (n refl)
-    go (suc k) n = refl
-
--- an accepted map is within the program's sizes
-sizes : (m : Map) → mapNumber m ≡ 0 → (m .«heap_size» ≤ 32768) × (m .«stack_size» ≤ 16384)
+-- it is within the program's sizes
+pub sizes : (m : Map) → mapNumber m ≡ 0 → (m .«heap_size» ≤ 32768) × (m .«stack_size» ≤ 16384)
 sizes m e = go (test (aboveSizes m))
   where
     go : Test (aboveSizes m) → (m .«heap_size» ≤ 32768) × (m .«stack_size» ≤ 16384)
     go (is-false t) = let f = or-false (ltb 32768 (m .«heap_size»)) (ltb 16384 (m .«stack_size»)) t in (ltb-false 32768 (m .«heap_size») (f .0), ltb-false 16384 (m .«stack_size») (f .1))
     go (is-true t) = absurd (omega (arith, rw (accepted-good m e, t) at e))
 
-pub served-accepted : (m : Map) (r : Answer) (t : State) (h p s h′ p′ s′ : List ℕ) → mapNumber m ≡ 0 → 32768 ≤ length h → 16384 ≤ length p → 16384 ≤ length s
-    → (parts m h′ p′ s′, r) ≡ monitor.call m clear (parts m h p s)
-    → (kept m h′ p′ s′, r) ≡ serve (newMap m) t
-unfolding serve shadowStep
-served-accepted m r t h p s h′ p′ s′ z lh lp ls e =
-    rw z
-    (ap (underMap m)
-    (e
-    ∙ call-step m clear (parts m h p s) (accepted-good m z)
-    (true-fit m (parts m h p s) (
-      length-take-le (m .«heap_size») h (omega (arith, sizes m z .0, lh)),
-      (
-        length-take-le (m .«stack_size») p (omega (arith, sizes m z .1, lp)),
-        length-take-le (m .«stack_size») s (omega (arith, sizes m z .1, ls)),
-      ),
-    ))))
+module _ (m : Map) (h p s : List ℕ) (z : mapNumber m ≡ 0) (lh : 32768 ≤ length h) (lp : 16384 ≤ length p) (ls : 16384 ≤ length s) where
+  -- the buffers have shadows of its lengths
+  pub parts-fit : lengthsFit m (parts m h p s) ≡ true
+  parts-fit =
+      true-fit m (parts m h p s) (
+        length-take-le (m .«heap_size») h (omega (arith, sizes m z .0, lh)),
+        (
+          length-take-le (m .«stack_size») p (omega (arith, sizes m z .1, lp)),
+          length-take-le (m .«stack_size») s (omega (arith, sizes m z .1, ls)),
+        ),
+      )
+
+  -- under it clear leaves zeros
+  pub parts-cleared : monitor.call m clear (parts m h p s) ≡ (zeroShadows m, done)
+  unfolding shadowStep
+  parts-cleared = call-step m clear (parts m h p s) (accepted-good m z) parts-fit

@@ -1,6 +1,8 @@
 pub mod RecordLaws
+pub mod ProgramLaws
 pub mod LineLaws
 pub mod CopyLaws
+pub mod ServeLaws
 pub mod RunningLaws
 pub mod KeptLaws
 pub mod NewMapSamples

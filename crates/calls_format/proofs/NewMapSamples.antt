@@ -9,10 +9,7 @@ use Rattle.number.specs.Parts.{Each}
 use Rattle.number.proofs.TestLaws.{and-true}
 use Rattle.map.specs.declared.Map.{Map}
 use Rattle.map.specs.Map.{goodArea, apart, goodMap}
-use Rattle.plain.specs.Call.{refusal, done}
-use Rattle.shadows.specs.Shadows.{zeroShadows}
-use Rattle.calls_format.specs.Records.{newMap}
-use Rattle.calls_format.specs.Running.{mapNumber, State, serve}
+use Rattle.calls_format.specs.Running.{mapNumber, serveBy, serve}
 use Rattle.calls_format.specs.NewMapSamples.{taken, tooLarge, bad, NewMapSamplesHold}
 
 -- each map is answered with this number
@@ -27,25 +24,21 @@ answered-each n P h (m ∷ ms) e =
     let t = and-true (eqb (mapNumber m) n) (answered n ms) e in
     (h m (eqb-true (mapNumber m) n (t .0)), answered-each n P h ms (t .1))
 
-accepted : (m : Map) → mapNumber m ≡ 0 → (s : State) → serve (newMap m) s ≡ ((m, zeroShadows m), done)
-unfolding serve
-accepted m e s = rw e
-
-by-ten : (m : Map) → mapNumber m ≡ 10 → (s : State) → serve (newMap m) s ≡ (s, refusal 10)
-unfolding serve
-by-ten m e s = rw e
-
-by-one : (m : Map) → mapNumber m ≡ 1 → (s : State) → serve (newMap m) s ≡ (s, refusal 1)
-unfolding serve
-by-one m e s = rw e
-
 computed : (answered 0 taken ≡ true) × (answered 10 tooLarge ≡ true) × (answered 1 bad ≡ true)
 unfolding answered goodMap goodArea apart taken tooLarge bad
 computed = (refl, refl, refl)
 
+-- what holds of every map of a number holds of each in its table
+module _ (P : Map → Type 0) where
+  pub each-taken : ((m : Map) → mapNumber m ≡ 0 → P m) → Each P taken
+  each-taken h = answered-each 0 P h taken (computed .0)
+
+  pub each-large : ((m : Map) → mapNumber m ≡ 10 → P m) → Each P tooLarge
+  each-large h = answered-each 10 P h tooLarge (computed .1)
+
+  pub each-bad : ((m : Map) → mapNumber m ≡ 1 → P m) → Each P bad
+  each-bad h = answered-each 1 P h bad (computed .2)
+
 pub new-map-samples-hold : NewMapSamplesHold
-new-map-samples-hold = (
-  answered-each 0 _ accepted taken (computed .0),
-  answered-each 10 _ by-ten tooLarge (computed .1),
-  answered-each 1 _ by-one bad (computed .2),
-)
+unfolding serve serveBy
+new-map-samples-hold = (each-taken _ (λ m e s. rw e), each-large _ (λ m e s. rw e), each-bad _ (λ m e s. rw e))

@@ -40,6 +40,14 @@ pub cut-head : (l : List ℕ) → length l < 4 → decode l ≡ none
 unfolding decode
 cut-head l h = rw (lt-leb 4 (length l) h)
 
+pub no-record : (l : List ℕ) → fieldsOf (kindField l) ≡ none → decode l ≡ none
+unfolding decode
+no-record l e = go (test (leb 4 (length l)))
+  where
+    go : Test (leb 4 (length l)) → decode l ≡ none
+    go (is-true t) = rw (t, e)
+    go (is-false t) = rw t
+
 -- four bytes are there, of the kind k, whose records have the length n
 pub record Headed (l : List ℕ) (k n : ℕ) : Type 0 where
   pub long : 4 ≤ length l
@@ -149,7 +157,7 @@ longest-holds =
     (omega arith) (omega arith) (λ j u. rw u (omega arith))
 
 module _ (l m : List ℕ) (h : longest ≤ length l) where
-  word-front : (p w : ℕ) → p + w ≤ longest → word (at (l ++ m)) p w ≡ word (at l) p w
+  pub word-front : (p w : ℕ) → p + w ≤ longest → word (at (l ++ m)) p w ≡ word (at l) p w
   word-front p w k = word-same (at (l ++ m)) (at l) p p w (λ i x. List·getD-append l m 0 (p + i) (omega arith))
 
   request-front : (k : ℕ) → requestOf k (l ++ m) ≡ requestOf k l

@@ -11,10 +11,14 @@ use Rattle.map.specs.declared.Map.{Map}
 use Rattle.plain.specs.Call as plain
 use Rattle.plain.specs.Call.{Call}
 
--- what a record asks for: a new map, or a call
-pub data Request : Type 0 where
-  newMap : Map → Request
-  call : Call → Request
+-- what a record asks for: a new map, or a call of the program's form
+pub data Asked (C : Type 0) : Type 0 where
+  newMap : Map → Asked C
+  call : C → Asked C
+
+-- in the plain program
+abbrev pub Request : Type 0
+Request = Asked Call
 
 -- the length and the kind that a record begins with, and its field i
 abbrev pub lengthField : List ℕ → ℕ

@@ -1,4 +1,5 @@
--- A run of the calls program on its requests: the map, the shadows and the answer of each. And the same run on the plain list. Assumes nothing.
+-- A run of a calls program on its requests: the map, the state and the answer of each. The plain program's on shadows, and the same run on the plain
+-- list. Assumes nothing.
 use mathlib.Core.Path.{_≡_}
 use mathlib.Core.Bool.{Bool, cond, not, _||_}
 use mathlib.Core.List.{List, [], _∷_}
@@ -10,12 +11,13 @@ use Rattle.map.specs.declared.Map.{Map}
 use Rattle.map.specs.Map.{goodMap}
 use Rattle.plain.specs.Block.{Block}
 use Rattle.plain.specs.Areas.{mapRules}
+use Rattle.plain.specs.Rules.{Rules}
 use Rattle.plain.specs.Call.{Answer, number, Refusal, refusal, done, firstOf, unless}
 use Rattle.plain.specs.PlainList.{plainStep}
 use Rattle.plain.specs.Run.{run}
 use Rattle.shadows.specs.Shadows.{zeroShadows, Shadows, image}
 use Rattle.monitor_base.specs.Calls as monitor
-use Rattle.calls_format.specs.Records.{Request, newMap, call}
+use Rattle.calls_format.specs.Records.{Asked, Request, newMap, call}
 
 -- ---- a new map
 
@@ -31,27 +33,37 @@ mapRefusals m = (1, not (goodMap m)) ∷ (10, aboveSizes m) ∷ []
 abbrev pub mapNumber : Map → ℕ
 mapNumber m = firstOf (mapRefusals m)
 
+-- ---- a request of any form
+
+-- before any map the map is all zeros
+abbrev pub zeroMap : Map
+zeroMap = record { «heap_start» = 0; «heap_size» = 0; «stack_start» = 0; «stack_size» = 0 }
+
+-- a call changes no map
+abbrev pub underMap : {X : Type 0} → Map → X × Answer → (Map × X) × Answer
+underMap m r = ((m, r .0), r .1)
+
+-- by what an accepted map leaves of a state, and what a call does under a map: a refused map keeps the old one and the state
+unfoldable pub serveBy : {C X : Type 0} (cleared : Map → X → X) (callOn : Map → C → X → X × Answer) → Asked C → Map × X → (Map × X) × Answer
+serveBy cleared callOn (newMap m) s = unless (mapNumber m) s ((m, cleared m (s .1)), done)
+serveBy cleared callOn (call c) s = underMap (s .0) (callOn (s .0) c (s .1))
+
+-- a call on a plain list, of whatever form: refused by 1 under a map that breaks a rule
+abbrev pub listed : {C L : Type 0} (step : Rules → C → L → L × Answer) → Map → C → L → L × Answer
+listed step m c x = cond (goodMap m) (step (mapRules m) c x) (x, refusal 1)
+
 -- ---- the run on shadows
 
 -- the map, and shadows as long as its areas
 abbrev pub State : Type 0
 State = Map × Shadows
 
--- before any map the map is all zeros
-abbrev pub zeroMap : Map
-zeroMap = record { «heap_start» = 0; «heap_size» = 0; «stack_start» = 0; «stack_size» = 0 }
-
 abbrev pub firstState : State
 firstState = (zeroMap, ([], ([], [])))
 
--- a call changes no map
-abbrev pub underMap : {X : Type 0} → Map → X × Answer → (Map × X) × Answer
-underMap m r = ((m, r .0), r .1)
-
--- an accepted map clears; a refused one keeps the old one and the shadows
+-- an accepted map clears
 unfoldable pub serve : Request → State → State × Answer
-serve (newMap m) s = unless (mapNumber m) s ((m, zeroShadows m), done)
-serve (call c) s = underMap (s .0) (monitor.call (s .0) c (s .1))
+serve r s = serveBy (λ m x. zeroShadows m) monitor.call r s
 
 -- ---- the same run on the plain list
 
@@ -62,10 +74,9 @@ PlainState = Map × List Block
 abbrev pub firstPlain : PlainState
 firstPlain = (zeroMap, [])
 
--- an accepted map leaves no block; a call under a map that breaks a rule is refused by 1
+-- an accepted map leaves no block
 unfoldable pub servePlain : Request → PlainState → PlainState × Answer
-servePlain (newMap m) s = unless (mapNumber m) s ((m, []), done)
-servePlain (call c) s = cond (goodMap (s .0)) (underMap (s .0) (plainStep (mapRules (s .0)) c (s .1))) (s, refusal 1)
+servePlain r s = serveBy (λ m x. []) (listed plainStep) r s
 
 -- the map, and the image of the list
 abbrev pub imageOf : PlainState → State

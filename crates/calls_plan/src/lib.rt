@@ -1,6 +1,7 @@
 // What a request asks of the monitor: a call under a map, on so many bytes of each buffer, or a refusal.
 ghost use mathlib.Core.Path.{_≡_};
 ghost use Prim.Native.Nat.{min};
+ghost use Rattle.plain.specs.Call.{clear};
 ghost use Rattle.calls_format.specs.Decoded.{requested};
 ghost use Rattle.calls_plan.specs.Plan.{planOf, planned};
 use calls_format::Request;
@@ -15,7 +16,7 @@ pub enum Plan {
 
 // An accepted map clears, under itself; a refused one leaves all.
 pub fn plan_of(map: Map, request: Request) -> Plan
-    ensures { λ r. ⌜ planOf r ≡ planned map (requested request) ⌝ }
+    ensures { λ r. ⌜ planOf r ≡ planned clear map (requested request) ⌝ }
 {
     match request {
         Request::Call(call) => Plan::Step(map, call),
@@ -36,15 +37,11 @@ pub struct Sizes {
     pub secondary: usize,
 }
 
-// As many bytes as the area has, where the buffer has so many.
-fn part(size: u32, length: usize) -> usize
+// As many bytes as the area asks for, where the buffer has so many.
+pub fn part(size: usize, length: usize) -> usize
     ensures { λ r. ⌜ r ≡ min size length ⌝ }
 {
-    if (size as usize) < length {
-        size as usize
-    } else {
-        length
-    }
+    if size < length { size } else { length }
 }
 
 pub fn sizes_of(map: Map, heap: usize, primary: usize, secondary: usize) -> Sizes
@@ -52,8 +49,8 @@ pub fn sizes_of(map: Map, heap: usize, primary: usize, secondary: usize) -> Size
         × (r .secondary ≡ min (map .«stack_size») secondary) ⌝ }
 {
     Sizes {
-        heap: part(map.heap_size, heap),
-        primary: part(map.stack_size, primary),
-        secondary: part(map.stack_size, secondary),
+        heap: part(map.heap_size as usize, heap),
+        primary: part(map.stack_size as usize, primary),
+        secondary: part(map.stack_size as usize, secondary),
     }
 }

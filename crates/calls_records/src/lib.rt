@@ -18,7 +18,7 @@ use monitor_base::Query;
 use monitor_base::Update;
 
 // The two-byte number at a place of a slice.
-fn short_at(s: &[u8], p: usize) -> u32
+pub fn short_at(s: &[u8], p: usize) -> u32
     requires { ⌜ p + 2 ≤ length (now s) ⌝ }
     ensures { λ r. ⌜ r ≡ word (at (now (s .entry))) p 2 ⌝ }
 {
@@ -26,7 +26,7 @@ fn short_at(s: &[u8], p: usize) -> u32
 }
 
 // Field i of a record.
-fn field(s: &[u8], i: usize) -> u32
+pub fn field(s: &[u8], i: usize) -> u32
     requires { ⌜ 8 + 4 * i ≤ length (now s) ⌝ }
     ensures { λ r. ⌜ r ≡ records.field (now (s .entry)) i ⌝ }
 {

@@ -2,15 +2,13 @@
 ghost use mathlib.Core.Path.{_≡_};
 ghost use mathlib.Core.Bool.{false};
 ghost use Prim.Native.Nat.{_-_, _≤_};
-ghost use Rattle.calls_format.specs.Decoded.{requested, kindOf, lengthOf};
 ghost use Rattle.calls_window.specs.Window.{Held};
 ghost use Rattle.calls_output.specs.Pending.{Waits};
 ghost use Rattle.calls_run.specs.Told.{Told};
-use calls_format::Request;
-use calls_format::Served;
 use calls_output::Pending;
 use calls_window::Window;
 use map::Map;
+use monitor_base::Answer;
 
 // What goes from record to record, beside the shadows: the map, the two buffers' state, and whether the run goes on.
 pub struct Run {
@@ -32,24 +30,24 @@ pub fn ended(map: Map, window: Window, pending: Pending) -> Run
     }
 }
 
-// The run after a record that was served: its line waits, and the window stands past it.
+// The run after a record of this kind and length that was served: under the map that holds then, its line waits,
+// and the window stands past it.
 pub fn told(
     lines: &mut [u8; 65536],
     run: Run,
     window: Window,
-    request: Request,
-    served: Served,
+    kind: u32,
+    length: usize,
+    under: Map,
+    answer: Answer,
 ) -> Run
-    requires { ⌜ Held window 65536 × Waits (run .pending) 65536 × (lengthOf (kindOf (requested request)) ≤ window .end - window .at) ⌝ }
-    ensures { λ r. ⌜ Told run window request served r (now (lines .entry)) (now (lines .exit)) ⌝ }
+    requires { ⌜ Held window 65536 × Waits (run .pending) 65536 × (length ≤ window .end - window .at) ⌝ }
+    ensures { λ r. ⌜ Told run window kind length under answer r (now (lines .entry)) (now (lines .exit)) ⌝ }
 {
-    let kind = calls_kinds::kind_of(request);
-    let length = calls_kinds::length_of(request);
-    let kept = served.map;
     let pending = run.pending;
-    let added = calls_output::line(lines, pending, kind, served.answer);
+    let added = calls_output::line(lines, pending, kind, answer);
     Run {
-        map: kept,
+        map: under,
         window: calls_window::past(window, length),
         pending: added,
         on: added.open,

@@ -1,9 +1,11 @@
-// One turn of the calls program: a record is read, served, and its line told.
-ghost use Rattle.calls_turn.specs.Turn.{Goes, Turned, pointOf};
+// One turn of the plain calls program: a record is read, served, and its line told.
+ghost use Rattle.calls_file.specs.Turn.{Goes, Turned};
+ghost use Rattle.calls_turn.specs.Point.{pointOf};
 use calls_format::Decoded;
 use calls_run::Run;
 use calls_run::ended;
 use calls_run::told;
+use calls_window::unread;
 
 // One record, or the end of the input.
 pub fn turn(
@@ -25,9 +27,11 @@ pub fn turn(
     if window.at == window.end {
         return ended(map, window, pending);
     }
-    let Decoded::Call(request) = calls_window::first(bytes, window) else {
+    let Decoded::Call(request) = calls_records::decode(unread(bytes, window)) else {
         return ended(map, window, calls_output::undecodable(lines, pending));
     };
     let served = calls_serve::serve(map, heap, primary, secondary, request);
-    told(lines, run, window, request, served)
+    let kind = calls_kinds::kind_of(request);
+    let length = calls_kinds::length_of(request);
+    told(lines, run, window, kind, length, served.map, served.answer)
 }

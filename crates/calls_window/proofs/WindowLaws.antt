@@ -1,16 +1,23 @@
--- Laws of the window: filling it again, and going past a record. Assumes nothing.
+-- Laws of the window: its length, filling it again, and going past a record. Assumes nothing.
 use mathlib.Core.Path.{_≡_, refl, sym, ap, _∙_}
 use mathlib.Core.Bool.{Bool, true}
 use mathlib.Core.List.{List}
 use Prim.Native.Nat.{ℕ, _+_, _-_, _≤_}
 use native.Mathlib.Omega.{arith}
 use native.Mathlib.Nat.{sub-zero}
-use lib.ListN.{length, take, drop, length-drop}
+use lib.ListN.{length, take, drop, length-take, length-drop}
 use lib.Seq.{paste, take-take, drop-drop}
 use Rattle.calls_format.specs.Decoded.{longest}
 use Rattle.calls_window.specs.declared.Window.{Window}
 use Rattle.calls_window.specs.Window.{Held, content, Refilled}
 use Rattle.calls_format.proofs.CopyLaws.{copied, drop-take}
+
+pub content-length : (w : Window) (l : List ℕ) → Held w (length l) → length (content w l) ≡ w .end - w .at
+content-length w l h = simp (length-take, length-drop) (omega arith)
+
+-- the bytes in a window are no more than it is long
+pub content-short : (w : Window) (l : List ℕ) → length (content w l) ≤ w .end - w .at
+content-short w l = omega (arith, length-take (w .end - w .at) (drop (w .at) l))
 
 -- d before, b after what is left was moved to the front, l after the reads
 pub refilled : (w : Window) (end : ℕ) (more : Bool) (d b l : List ℕ) → Held w (length d) × (w .more ≡ true) → w .end - w .at ≤ end → end ≤ length d

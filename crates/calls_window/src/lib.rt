@@ -1,11 +1,8 @@
-// The window of the input's buffer: the record that it begins with, and what is past it.
+// The window of the input's buffer: the bytes that are read and not yet taken, and what is past a record.
 ghost use mathlib.Core.Path.{_≡_};
 ghost use Prim.Native.Nat.{_-_, _≤_};
 ghost use lib.ListN.{length};
-ghost use Rattle.calls_format.specs.Decoded.{decodedOf};
-ghost use Rattle.calls_format.specs.Records.{decode};
 ghost use Rattle.calls_window.specs.Window.{Held, Passed, content};
-use calls_format::Decoded;
 
 // The bytes of the buffer that are read and not yet taken, and whether the input may have more.
 pub struct Window {
@@ -14,21 +11,21 @@ pub struct Window {
     pub more: bool,
 }
 
-fn decode_in(buffer: &[u8], w: Window) -> Decoded
+fn part_of(buffer: &[u8], w: Window) -> &[u8]
     requires { ⌜ Held w (length (now buffer)) ⌝ }
-    ensures { λ r. ⌜ decodedOf r ≡ decode (content w (now (buffer .entry))) ⌝ }
+    ensures { λ r. ⌜ now r ≡ content w (now (buffer .entry)) ⌝ }
 {
     let from = w.at;
     let end = w.end;
-    calls_records::decode(&buffer[from..end])
+    &buffer[from..end]
 }
 
-// The record that the window begins with.
-pub fn first(buffer: &[u8; 65536], w: Window) -> Decoded
+// The bytes in the window.
+pub fn unread(buffer: &[u8; 65536], w: Window) -> &[u8]
     requires { ⌜ Held w 65536 ⌝ }
-    ensures { λ r. ⌜ decodedOf r ≡ decode (content w (now (buffer .entry))) ⌝ }
+    ensures { λ r. ⌜ now r ≡ content w (now (buffer .entry)) ⌝ }
 {
-    decode_in(buffer, w)
+    part_of(buffer, w)
 }
 
 // The window past a record.

@@ -1,15 +1,14 @@
 -- What the calls that write alter, proved: see specs/Alters.antt for what each says. Assumes nothing.
 use mathlib.Core.Path.{_≡_, refl, sym, ap, _∙_}
-use mathlib.Core.Bool.{Bool, true, false, cond, not, _&&_, true≢false}
+use mathlib.Core.Bool.{Bool, true, false, cond, true≢false}
 use mathlib.Core.List.{List, [], _∷_}
 use Prim.Native.Nat.{ℕ, zero, suc, _+_, _*_, _-_, _≤_, _<_}
 use native.Mathlib.Omega.{arith}
 use lib.ListN.{length, length-set, length-replicate, List·getD-eq-default}
-use lib.Dec.{ltb}
-use borrow.Author.Tests.{ltb-true, ltb-false, not-false, eqb-false}
-use Rattle.number.specs.Parts.{at, tab, inPart, over}
+use borrow.Author.Tests.{not-false, eqb-false}
+use Rattle.number.specs.Parts.{at, tab}
 use Rattle.number.proofs.TestLaws.{Test, is-true, is-false, test, cond-true}
-use Rattle.number.proofs.PartLaws.{length-over, at-over, at-tab-out}
+use Rattle.number.proofs.PartLaws.{length-over, at-tab-out}
 use Rattle.map.specs.declared.Map.{Map}
 use Rattle.map.specs.Map.{goodMap}
 use Rattle.map.proofs.MapLaws.{Good, good-true, within-true, true-within}
@@ -46,24 +45,9 @@ use Rattle.demands.specs.Alters.{inPlace, RecordStamps, FreeZeroes, Writ
 use Rattle.demands.proofs.Numbers.{number-first, outside-words, reading-words}
 use Rattle.demands.proofs.Demand1.{accepted-exactly}
 use Rattle.demands.proofs.Begun as begun
+use Rattle.demands.proofs.OverLaws.{at-written}
+use Rattle.demands.proofs.RowLaws.{not-missed}
 use Rattle.demands.proofs.MarkLaws.{range-rest, range-out, range-in}
-
--- ---- a part written over
-
--- f written over a part, at every place, where f is 0 past the end
-at-written : (a n : ℕ) (f : ℕ → ℕ) (h : List ℕ) → ((q : ℕ) → length h ≤ q → f q ≡ 0) → (q : ℕ) → at (over a n f h) q ≡ cond (inPart a n q) (f q) (at h q)
-unfolding over
-at-written a n f h z q = go (test (ltb q (length h)))
-  where
-    none : (t : Bool) (x y : ℕ) → x ≡ 0 → y ≡ 0 → 0 ≡ cond t x y
-    none true x y d e = sym d
-    none false x y d e = sym e
-
-    go : Test (ltb q (length h)) → at (over a n f h) q ≡ cond (inPart a n q) (f q) (at h q)
-    go (is-true t) = at-over a n f h q (ltb-true q (length h) t)
-    go (is-false t) =
-        let k = ltb-false q (length h) t in
-        at-tab-out (length h) q _ k ∙ none (inPart a n q) (f q) (at h q) (z q k) (List·getD-eq-default h 0 k)
 
 -- ---- free
 
@@ -72,12 +56,12 @@ unfolding heapErase placeLength stackErase
 erased m s x l q = go q (test (inHeap m x))
   where
     go : (q : Place) → Test (inHeap m x) → byteAt (shadowOps m .erase s x l) q ≡ cond (inPlace m x l q) 0 (byteAt s q)
-    go (heap q) (is-true t) = rw t (at-written (x - m .«heap_start» - 8) (8 + segments 8 l * 8) (λ i. 0) (s .0) (λ i k. refl) q)
+    go (heap q) (is-true t) = rw t (at-written (x - m .«heap_start» - 8) (8 + segments 8 l * 8) (λ i. 0) (s .0) (λ i k r. refl) q)
     go (heap q) (is-false t) = rw t
     go (primary q) (is-true t) = rw t
-    go (primary q) (is-false t) = rw t (at-written (x - m .«stack_start») l (λ i. 0) (s .1 .0) (λ i k. refl) q)
+    go (primary q) (is-false t) = rw t (at-written (x - m .«stack_start») l (λ i. 0) (s .1 .0) (λ i k r. refl) q)
     go (secondary q) (is-true t) = rw t
-    go (secondary q) (is-false t) = rw t (at-written (x - m .«stack_start») l (λ i. 0) (s .1 .1) (λ i k. refl) q)
+    go (secondary q) (is-false t) = rw t (at-written (x - m .«stack_start») l (λ i. 0) (s .1 .1) (λ i k r. refl) q)
 
 pub free-zeroes : FreeZeroes
 unfolding call
@@ -146,16 +130,16 @@ module _ (m : Map) (w : Bool) (b l : ℕ) (s : Shadows) (ok : goodMap m ≡ true
       go : (q : Place) → Test (inHeap m b)
           → byteAt (shadowOps m .stamp s (begun w b l)) q ≡ cond (inPlace m b l q) (byteAt (image m (begun w b l ∷ [])) q) (byteAt s q)
       go (heap q) (is-true h) =
-          rw (h, heap-byte h q, ln) (at-written (b - m .«heap_start» - 8) (8 + segments 8 l * 8) (heapByte 4 8 heapBlocks) (s .0) (heap-past h) q)
+          rw (h, heap-byte h q, ln) (at-written (b - m .«heap_start» - 8) (8 + segments 8 l * 8) (heapByte 4 8 heapBlocks) (s .0) (λ i k r. heap-past h i k) q)
       go (heap q) (is-false h) = rw h
       go (primary q) (is-true h) = rw h
       go (primary q) (is-false h) =
           rw (h, stack-inside h, stack-byte h primaryOwn q, ln)
-          (at-written (b - m .«stack_start») l (primaryByte stackBlocks) (s .1 .0) (λ i k. stack-past h primaryOwn i (omega (arith, f .1 .0))) q)
+          (at-written (b - m .«stack_start») l (primaryByte stackBlocks) (s .1 .0) (λ i k r. stack-past h primaryOwn i (omega (arith, f .1 .0))) q)
       go (secondary q) (is-true h) = rw h
       go (secondary q) (is-false h) =
           rw (h, stack-inside h, stack-byte h secondaryOwn q, ln)
-          (at-written (b - m .«stack_start») l (secondaryByte stackBlocks) (s .1 .1) (λ i k. stack-past h secondaryOwn i (omega (arith, f .1 .1))) q)
+          (at-written (b - m .«stack_start») l (secondaryByte stackBlocks) (s .1 .1) (λ i k r. stack-past h secondaryOwn i (omega (arith, f .1 .1))) q)
 
 pub record-stamps : RecordStamps
 record-stamps m w b l s e q =
@@ -182,13 +166,8 @@ module _ (m : Map) (a n : ℕ) (s : Shadows) (e : numberOf m (written a n) s ≡
         fit = fit-true m s (not-false (lengthsFit m s) (h .1 .0));
         some = omega (arith, eqb-false n 0 (h .1 .1 .0));
         inside = h .1 .1 .1 .0;
-        whole = one (inOne n (readingAt m s a)) (damageMet m (written a n) s) (h .1 .1 .1 .1 .1 .1 .0) (h .1 .1 .1 .1 .1 .1 .1 .0);
+        whole = not-missed (inOne n (readingAt m s a)) (damageMet m (written a n) s) (h .1 .1 .1 .1 .1 .1 .0) (h .1 .1 .1 .1 .1 .1 .1 .0);
       }
-    where
-      one : (t d : Bool) → (not t && not d) ≡ false → d ≡ false → t ≡ true
-      one true d x y = refl
-      one false true x y = absurd (true≢false y)
-      one false false x y = sym x
 
   -- the range lies in the area of its first address
   all : (y : ℕ) → a ≤ y → y < a + n → mapRules m .inside y ≡ true

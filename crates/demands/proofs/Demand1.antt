@@ -1,22 +1,23 @@
 -- Demand 1, proved: see specs/Demand1.antt for what each says. Assumes nothing.
 use mathlib.Core.Path.{_≡_, refl, sym, _∙_}
-use mathlib.Core.Logic.{_≢_, inl, inr}
+use mathlib.Core.Logic.{_≢_}
 use mathlib.Core.Bool.{Bool, true, false, cond, not, _&&_, false≢true}
-use mathlib.Core.List.{List, [], _∷_, _++_}
-use Prim.Native.Nat.{ℕ, zero, suc, _≤_, _<_}
+use mathlib.Core.List.{List, [], _∷_}
+use Prim.Native.Nat.{ℕ, zero, suc, _≤_}
 use native.Mathlib.Omega.{arith}
 use Rattle.number.specs.Parts.{Each}
-use Rattle.number.proofs.TestLaws.{Test, is-true, is-false, test}
 use Rattle.map.specs.declared.Map.{Map}
 use Rattle.map.specs.Map.{goodMap}
 use Rattle.plain.specs.Areas.{mapRules}
 use Rattle.plain.specs.Call.{Call, clear, begin, free, written, ask, valid, initialised, next, audit, Answer, number, refusal, Refusal, firstOf, unless}
 use Rattle.plain.specs.ShadowCalls.{shadowsAfter, shadowAnswer}
+use Rattle.plain.proofs.AnswerLaws.{accepted-0}
 use Rattle.shadows.specs.Shadows.{Shadows, lengthsFit, shadowOps}
 use Rattle.monitor_base.specs.Calls.{refusals, call}
 use Rattle.demands.specs.Numbers.{isEmpty, isMisplaced, isUnaligned, isTaken, damageMet, blockMissed, rows}
-use Rattle.demands.specs.Demand1.{NoneHolds, SomeRow, isQuestion, RefusedAltersNothing, QuestionsAlterNothing, ByTheTable, AcceptedExactly, LowestWins, ItsRowHolds, SevenWithoutEight, EightOnlyThere, EightThere}
-use Rattle.demands.proofs.Numbers.{accepted-0, by-rows}
+use Rattle.demands.specs.Demand1.{isQuestion, RefusedAltersNothing, QuestionsAlterNothing, ByTheTable, AcceptedExactly, LowestWins, ItsRowHolds, SevenWithoutEight, EightOnlyThere, EightThere}
+use Rattle.demands.proofs.Numbers.{by-rows}
+use Rattle.demands.proofs.RowLaws.{Ascending, passed, first-none, none-first, lowest, first-holds, late}
 
 pub refused-alters-nothing : RefusedAltersNothing
 unfolding call
@@ -53,30 +54,9 @@ by-the-table = by-rows
 
 -- ---- accepted exactly if no row holds
 
-passed : (before after : List Refusal) → NoneHolds before → firstOf (before ++ after) ≡ firstOf after
-passed [] after h = refl
-passed (r ∷ rs) after h = rw (h .0) (passed rs after (h .1))
-
-first-none : (rs : List Refusal) → NoneHolds rs → firstOf rs ≡ 0
-first-none [] h = refl
-first-none (r ∷ rs) h = rw (h .0) (first-none rs (h .1))
-
--- each number is above the one before, so that 0 says that none holds
-abbrev Ascending : ℕ → List Refusal → Type 0
-Ascending k [] = Unit {0}
-Ascending k (r ∷ rs) = (k < r .0) × Ascending (r .0) rs
-
 ascending : (m : Map) (c : Call) (s : Shadows) → Ascending 0 (rows m c s)
 ascending m c s =
     (omega arith, (omega arith, (omega arith, (omega arith, (omega arith, (omega arith, (omega arith, (omega arith, tt))))))))
-
-none-first : (rs : List Refusal) (k : ℕ) → Ascending k rs → firstOf rs ≡ 0 → NoneHolds rs
-none-first [] k h e = tt
-none-first (r ∷ rs) k h e = go (test (r .1)) (none-first rs (r .0) (h .1))
-  where
-    go : Test (r .1) → (firstOf rs ≡ 0 → NoneHolds rs) → NoneHolds (r ∷ rs)
-    go (is-true t) ih = absurd (let z : r .0 ≡ 0 = rw t at e in omega (arith, h .0))
-    go (is-false t) ih = (t, ih (rw t at e))
 
 pub accepted-exactly : AcceptedExactly
 accepted-exactly m c s = (
@@ -86,31 +66,8 @@ accepted-exactly m c s = (
 
 -- ---- the lowest number wins
 
-above : (n k : ℕ) (rs : List Refusal) → n ≤ k → Ascending k rs → Each (λ (r : Refusal). r .1 ≡ true → n ≤ r .0) rs
-above n k [] h a = tt
-above n k (r ∷ rs) h a = (λ e. omega (arith, a .0), above n (r .0) rs (omega (arith, a .0)) (a .1))
-
-lowest : (rs : List Refusal) (k : ℕ) → Ascending k rs → Each (λ (r : Refusal). r .1 ≡ true → firstOf rs ≤ r .0) rs
-lowest [] k a = tt
-lowest (r ∷ rs) k a = go (test (r .1)) (lowest rs (r .0) (a .1))
-  where
-    go : Test (r .1) → Each (λ (q : Refusal). q .1 ≡ true → firstOf rs ≤ q .0) rs
-        → Each (λ (q : Refusal). q .1 ≡ true → firstOf (r ∷ rs) ≤ q .0) (r ∷ rs)
-    go (is-true t) ih = rw t (λ e. omega arith, above (r .0) (r .0) rs (omega arith) (a .1))
-    go (is-false t) ih = rw t (λ e. absurd (false≢true e), ih)
-
 pub lowest-wins : LowestWins
 lowest-wins m c s = rw (by-rows m c s) (lowest (rows m c s) 0 (ascending m c s))
-
--- the first number is that of a row that holds
-first-holds : (rs : List Refusal) → firstOf rs ≢ 0 → SomeRow (λ (r : Refusal). (r .0 ≡ firstOf rs) × (r .1 ≡ true)) rs
-first-holds [] n = n refl
-first-holds (r ∷ rs) n = go (test (r .1)) (first-holds rs)
-  where
-    go : Test (r .1) → (firstOf rs ≢ 0 → SomeRow (λ (q : Refusal). (q .0 ≡ firstOf rs) × (q .1 ≡ true)) rs)
-        → SomeRow (λ (q : Refusal). (q .0 ≡ firstOf (r ∷ rs)) × (q .1 ≡ true)) (r ∷ rs)
-    go (is-true t) ih = inl (rw t, t)
-    go (is-false t) ih = rw t (inr (ih (rw t at n)))
 
 pub its-row-holds : ItsRowHolds
 its-row-holds m c s n = rw (by-rows m c s) (first-holds (rows m c s) (rw (by-rows m c s) at n))
@@ -128,15 +85,6 @@ last m c s = (7, blockMissed m c s && not (damageMet m c s)) ∷ (8, damageMet m
 
 below : (m : Map) (c : Call) (s : Shadows) (n : ℕ) → 7 ≤ n → Each (λ (r : Refusal). r .0 ≢ n) (early m c s)
 below m c s n h = (omega arith, (omega arith, (omega arith, (omega arith, (omega arith, (omega arith, tt))))))
-
--- a number that the first rows do not have is one of the later ones
-late : (before after : List Refusal) (n : ℕ) → Each (λ (r : Refusal). r .0 ≢ n) before → firstOf (before ++ after) ≡ n → firstOf after ≡ n
-late [] after n h e = e
-late (r ∷ rs) after n h e = go (test (r .1)) (late rs after n (h .1))
-  where
-    go : Test (r .1) → (firstOf (rs ++ after) ≡ n → firstOf after ≡ n) → firstOf after ≡ n
-    go (is-true t) ih = absurd (h .0 (rw t at e))
-    go (is-false t) ih = ih (rw t at e)
 
 seven : (n d : Bool) → _≡_ {A = ℕ} (cond (n && not d) 7 (cond d 8 0)) 7 → d ≡ false
 seven n false e = refl

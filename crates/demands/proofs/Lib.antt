@@ -8,8 +8,10 @@ pub mod MapSamples
 pub mod MarkLaws
 pub mod Null
 pub mod Numbers
+pub mod OverLaws
 pub mod Readings
 pub mod Rest
+pub mod RowLaws
 pub mod Samples
 pub mod Starts
 pub mod Told

@@ -1,6 +1,7 @@
 -- The number of a call, by the conditions that define it and by the rows of the table (specs/Numbers.antt). Assumes nothing.
 use mathlib.Core.Path.{_≡_, refl, ap, _∙_, fun-ext}
 use mathlib.Core.Bool.{Bool, true, false, cond, not, _&&_, _||_, true≢false}
+use mathlib.Core.List.{_++_}
 use mathlib.Core.Option.{Option, none, some}
 use Prim.Native.Nat.{ℕ, zero, suc, _+_, _-_, _%_}
 use native.Mathlib.Omega.{arith}
@@ -12,8 +13,9 @@ use Rattle.plain.specs.Areas.{mapRules}
 use Rattle.plain.specs.Rules.{Rules}
 use Rattle.plain.specs.Ops.{Ops, readAny}
 use Rattle.plain.specs.Reading.{Reading, nothing, block, damaged, Tally, tally}
-use Rattle.plain.specs.Call.{Call, clear, begin, free, written, ask, valid, initialised, next, audit, number, firstOf}
-use Rattle.plain.specs.ShadowCalls.{isDamaged, isBlock, isFirst, climb, stop, askAnswer, nextAnswer, auditAnswer, reading, search, shadowAnswer}
+use Rattle.plain.specs.Call.{Call, clear, begin, free, written, ask, valid, initialised, next, audit, number, firstOf, byRules}
+use Rattle.plain.specs.ShadowCalls.{isDamaged, isBlock, isFirst, climb, stop, askAnswer, nextAnswer, auditAnswer, reading, search, byShadows, shadowAnswer}
+use Rattle.plain.proofs.AnswerLaws.{accepted-0}
 use Rattle.plain.proofs.RunLaws.{unless-number}
 use Rattle.heap_layout.specs.Ops.{placeLength, heapVacant}
 use Rattle.stack_layout.specs.Ops.{stackVacant}
@@ -21,35 +23,11 @@ use Rattle.shadows.specs.Shadows.{Shadows, shadowOps}
 use Rattle.monitor_base.specs.Calls.{refusals, call}
 use Rattle.demands.specs.Addresses.{inHeap, inStack, outside, endOfAreas, readingAt}
 use Rattle.demands.specs.Numbers.{fitsArea, placeZero, damagedFirst, noneBegins, damageMet, blockMissed, rows}
+use Rattle.demands.proofs.RowLaws.{pastTwo}
 
 -- ---- the first condition that holds
 
 -- what a call answers where it is not refused has number 0
-pub accepted-0 : {S : Type 0} (R : Rules) (O : Ops S) (c : Call) (s : S) → number (shadowAnswer R O c s) ≡ 0
-accepted-0 R O clear s = refl
-accepted-0 R O (begin w b l) s = refl
-accepted-0 R O (free x) s = refl
-accepted-0 R O (written a n) s = refl
-accepted-0 R O (ask a) s = go (reading R O s a)
-  where
-    go : (r : Reading) → number (askAnswer r) ≡ 0
-    go nothing = refl
-    go (block b l o m) = refl
-    go damaged = refl
-accepted-0 R O (valid a n from) s = refl
-accepted-0 R O (initialised a n) s = refl
-accepted-0 R O (next a) s = go (search R O s a)
-  where
-    go : (r : Reading) → number (nextAnswer r) ≡ 0
-    go nothing = refl
-    go (block b l o m) = refl
-    go damaged = refl
-accepted-0 R O audit s = go (O .audit s)
-  where
-    go : (t : Option Tally) → number (auditAnswer t) ≡ 0
-    go none = refl
-    go (some (tally h k l w)) = refl
-
 pub number-first : (m : Map) (c : Call) (s : Shadows) → number ((call m c s) .1) ≡ firstOf (refusals m c s)
 unfolding call
 number-first m c s = unless-number (firstOf (refusals m c s)) s _ (accepted-0 (mapRules m) (shadowOps m) c s)
@@ -93,7 +71,7 @@ misplaced-words m b l =
 pub unaligned-words : (m : Map) (b : ℕ) → not (mapRules m .aligned b) ≡ (inHeap m b && not (eqb (b % 8) 0))
 unaligned-words m b = uneven (inHeap m b) (eqb (b % 8) 0)
 
-taken-words : (m : Map) (s : Shadows) (b l : ℕ) → shadowOps m .vacant s b l ≡ placeZero m s b l
+pub taken-words : (m : Map) (s : Shadows) (b l : ℕ) → shadowOps m .vacant s b l ≡ placeZero m s b l
 unfolding heapVacant placeLength stackVacant
 taken-words m s b l = refl
 
@@ -150,18 +128,22 @@ last-two : (m : Map) (c : Call) (s : Shadows) (n : Bool) → (damageMet m c s �
     → _≡_ {A = ℕ} (cond (damageMet m c s) 8 (cond n 7 0)) (cond (blockMissed m c s && not (damageMet m c s)) 7 (cond (damageMet m c s) 8 0))
 last-two m c s n h = eight-first (damageMet m c s) n (blockMissed m c s) h
 
-same-rows : (m : Map) (c : Call) (s : Shadows) → firstOf (refusals m c s) ≡ firstOf (rows m c s)
-same-rows m clear s = refl
-same-rows m (begin w b l) s = rw (misplaced-words m b l, unaligned-words m b, taken-words m s b l)
-same-rows m (free zero) s = refl
-same-rows m (free (suc x)) s = rw (outside-words m (suc x), reading-words m s (suc x), last-two m (free (suc x)) s _ (λ d. refl))
-same-rows m (written a n) s = rw (outside-words m a, reading-words m s a, last-two m (written a n) s _ (λ d. refl))
-same-rows m (ask a) s = rw (outside-words m a, reading-words m s a, last-two m (ask a) s _ (λ d. refl))
-same-rows m (valid a n from) s = rw (reading-words m s a, reading-words m s from)
-same-rows m (initialised a n) s = rw (reading-words m s a)
-same-rows m (next a) s =
+pub later-rows : (m : Map) (c : Call) (s : Shadows)
+    → firstOf (byRules (mapRules m) c ++ byShadows (mapRules m) (shadowOps m) c s) ≡ firstOf (pastTwo (rows m c s))
+later-rows m clear s = refl
+later-rows m (begin w b l) s = rw (misplaced-words m b l, unaligned-words m b, taken-words m s b l)
+later-rows m (free zero) s = refl
+later-rows m (free (suc x)) s = rw (outside-words m (suc x), reading-words m s (suc x), last-two m (free (suc x)) s _ (λ d. refl))
+later-rows m (written a n) s = rw (outside-words m a, reading-words m s a, last-two m (written a n) s _ (λ d. refl))
+later-rows m (ask a) s = rw (outside-words m a, reading-words m s a, last-two m (ask a) s _ (λ d. refl))
+later-rows m (valid a n from) s = rw (reading-words m s a, reading-words m s from)
+later-rows m (initialised a n) s = rw (reading-words m s a)
+later-rows m (next a) s =
     rw (search-words m s a, climb-damaged (readingAt m s) a (endOfAreas m - a), last-two m (next a) s _ (climb-none (readingAt m s) a (endOfAreas m - a)))
-same-rows m audit s = refl
+later-rows m audit s = refl
+
+same-rows : (m : Map) (c : Call) (s : Shadows) → firstOf (refusals m c s) ≡ firstOf (rows m c s)
+same-rows m c s = rw (later-rows m c s)
 
 pub by-rows : (m : Map) (c : Call) (s : Shadows) → number ((call m c s) .1) ≡ firstOf (rows m c s)
 by-rows m c s = number-first m c s ∙ same-rows m c s

@@ -43,3 +43,9 @@ pub enum Located {
     Stack(Position),
     Outside,
 }
+
+// What the check of a call that writes found: its number, and, where that is 0, where its address lies.
+pub struct Checked {
+    pub number: u32,
+    pub place: Located,
+}

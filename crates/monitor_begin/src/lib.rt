@@ -1,18 +1,16 @@
-// A block begins in one of the areas, if it fits, is aligned, and its place is vacant.
+// Whether a block may begin in one of the areas: it fits, is aligned, and its place is vacant.
 ghost use mathlib.Core.Path.{_≡_};
-ghost use mathlib.Core.List.{List};
-ghost use Prim.Native.Nat.{ℕ, _%_, _≤_, _<_};
+ghost use Prim.Native.Nat.{_%_, _≤_, _<_};
 ghost use lib.ListN.{length};
-ghost use Rattle.stack_layout.specs.Ops.{StackShadows};
-ghost use Rattle.monitor_write_laws.specs.AreaCalls.{onHeap, onStack};
 ghost use Rattle.plain.specs.Call as plain;
+ghost use Rattle.monitor_write_laws.specs.AreaCalls.{onHeap, onStack};
 use map::Position;
 
 // In the heap, whose first segment holds no block. The number.
-pub fn on_heap(heap: &mut [u8], base: Position, end: Position, len: u32, written: bool) -> u32
+pub fn on_heap(heap: &[u8], base: Position, end: Position, len: u32) -> u32
     requires { ⌜ (1 ≤ len) × (end .0 ≡ length (now heap)) ⌝ }
     requires { ⌜ (base .0 < length (now heap)) × (length (now heap) % 8 ≡ 0) × (length (now heap) ≤ 131072) ⌝ }
-    ensures { λ r. ⌜ _≡_ {A = List ℕ × plain.Answer} (now (heap .exit), plain.refusal r) (onHeap (plain.begin written (base .0) len) (now (heap .entry))) ⌝ }
+    ensures { λ r. ⌜ r ≡ plain.number (onHeap (plain.record-block (base .0) len) (now (heap .entry)) .1) ⌝ }
 {
     let b = base.0;
     if b < 8 {
@@ -27,23 +25,14 @@ pub fn on_heap(heap: &mut [u8], base: Position, end: Position, len: u32, written
     if !heap_place::vacant(heap, base, len) {
         return 6;
     }
-    heap_stamp::stamp(heap, base, len, written);
     0
 }
 
 // In the stack. The number.
-pub fn on_stack(
-    primary: &mut [u8],
-    secondary: &mut [u8],
-    base: Position,
-    end: Position,
-    len: u32,
-    written: bool,
-) -> u32
+pub fn on_stack(primary: &[u8], secondary: &[u8], base: Position, end: Position, len: u32) -> u32
     requires { ⌜ (1 ≤ len) × (end .0 ≡ length (now primary)) ⌝ }
     requires { ⌜ (base .0 < length (now primary)) × (length (now primary) ≡ length (now secondary)) × (length (now primary) ≤ 65536) ⌝ }
-    ensures { λ r. ⌜ _≡_ {A = StackShadows × plain.Answer} ((now (primary .exit), now (secondary .exit)), plain.refusal r)
-        (onStack (plain.begin written (base .0) len) (now (primary .entry), now (secondary .entry))) ⌝ }
+    ensures { λ r. ⌜ r ≡ plain.number (onStack (plain.record-block (base .0) len) (now (primary .entry), now (secondary .entry)) .1) ⌝ }
 {
     let at = base.0;
     if end.0 < at + (len as usize) {
@@ -52,6 +41,5 @@ pub fn on_stack(
     if !stack_place::vacant(primary, secondary, base, len) {
         return 6;
     }
-    stack_stamp::stamp(primary, secondary, base, len, written);
     0
 }

@@ -1,9 +1,12 @@
 -- The call that tells of an address, by its reading in the area that it lies in. Assumes nothing.
 use mathlib.Core.Path.{_≡_, refl, sym, _∙_}
 use mathlib.Core.Bool.{true}
-use mathlib.Core.List.{List}
+use mathlib.Core.List.{List, [], _∷_}
+use mathlib.Core.Logic.{⊎-elim}
 use Prim.Native.Nat.{ℕ, _-_}
 use native.Mathlib.Omega.{arith}
+use types.Run.{OneOf}
+use denote.Enum.Declared.{tagOf}
 use lib.ListN.{length}
 use Rattle.number.specs.Parts.{at}
 use Rattle.map.specs.declared.Map.{Map}
@@ -25,9 +28,16 @@ use Rattle.monitor_base.specs.Calls.{call}
 use Rattle.monitor_base.specs.Locating.{Lies}
 use Rattle.monitor_base.specs.declared.Located.{Located}
 use Rattle.monitor_base.specs.declared.Located.the-variants.{Heap, Stack, Outside}
+use Rattle.monitor_base.proofs.Located.{the-type}
 use Rattle.monitor_base.proofs.CallLaws.{call-step}
 use Rattle.monitor_base.proofs.LocatingLaws.{heap-lengths, stack-lengths, ends, heap-there, stack-there, read-heap, read-stack, read-out}
 use Rattle.monitor_read_laws.specs.Asked.{There, readingAt, originOf, askReading, baseBelow}
+
+-- what the place after the test for neither area knows: the tag of another case
+pub in-area : (l : Located) → OneOf (0 ∷ (1 ∷ [])) (tagOf the-type l) → l ≡ Outside → ⊥
+in-area (Heap p) o e = let z : _≡_ {A = ℕ} 0 1 = cc in omega arith
+in-area (Stack p) o e = let z : _≡_ {A = ℕ} 0 1 = cc in omega arith
+in-area Outside o e = ⊎-elim (λ x. omega arith) (λ x. omega arith) o
 
 pub same-there : (l k : Located) (h p s : List ℕ) → l ≡ k → There l h p s → There k h p s
 same-there l k h p s e t = rw e at t

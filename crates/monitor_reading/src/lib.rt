@@ -1,5 +1,6 @@
 // The reading of where an address lies, and what a reading says.
 ghost use mathlib.Core.Path.{_≡_};
+ghost use mathlib.Core.Bool.{cond};
 ghost use Rattle.plain.specs.Answers.{readingOf};
 ghost use Rattle.plain.specs.ShadowCalls.{isDamaged, isFirst, inOne, lengthOf};
 ghost use Rattle.monitor_read_laws.specs.Asked.{There, readingAt};
@@ -25,6 +26,17 @@ pub fn damaged(r: Reading) -> bool
         Reading::Damaged => true,
         Reading::Nothing => false,
         Reading::Block(_, _, _, _) => false,
+    }
+}
+
+// The number where it gives no block that is asked for: 8 where it is damaged, else 7.
+pub fn missing(r: Reading) -> u32
+    ensures { λ k. ⌜ k ≡ cond (isDamaged (readingOf r)) 8 7 ⌝ }
+{
+    match r {
+        Reading::Damaged => 8,
+        Reading::Nothing => 7,
+        Reading::Block(_, _, _, _) => 7,
     }
 }
 

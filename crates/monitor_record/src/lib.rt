@@ -1,19 +1,18 @@
-// Records a block, with no byte written or with every byte.
+// Records a block, with no byte written or with every byte: the check, then the effect.
 ghost use mathlib.Core.Path.{_≡_};
 ghost use Rattle.shadows.specs.Shadows.{Shadows};
 ghost use Rattle.monitor_base.specs.Answers.{outcome};
 ghost use Rattle.monitor_base.specs.Calls.{call};
 ghost use Rattle.plain.specs.Call as plain;
 use map::Address;
-use map::Area;
 use map::Map;
 use monitor_base::Answer;
-use monitor_base::Located;
+use monitor_base::Checked;
 use monitor_base::guard;
-use monitor_base::locating::end;
-use monitor_base::locating::locate;
+use monitor_record_check::check;
+use monitor_stamp::stamp;
 
-// The block joins; each of its bytes counts as written, or none. The number.
+// The number.
 fn begin(
     map: Map,
     heap: &mut [u8],
@@ -26,25 +25,11 @@ fn begin(
     ensures { λ r. ⌜ _≡_ {A = Shadows × plain.Answer} ((now (heap .exit), (now (primary .exit), now (secondary .exit))), plain.refusal r)
         (call map (plain.begin written (base .0) len) (now (heap .entry), (now (primary .entry), now (secondary .entry)))) ⌝ }
 {
-    let k = guard::checked(map, heap.len(), primary.len(), secondary.len());
-    if k != 0 {
-        return k;
+    let Checked { number, place } = check(map, heap, primary, secondary, base, len);
+    if number == 0 {
+        stamp(heap, primary, secondary, place, len, written);
     }
-    if len == 0 {
-        return 3;
-    }
-    match locate(map, base) {
-        Located::Heap(p) => monitor_begin::on_heap(heap, p, end(map, Area::Heap), len, written),
-        Located::Stack(p) => monitor_begin::on_stack(
-            primary,
-            secondary,
-            p,
-            end(map, Area::Stack),
-            len,
-            written,
-        ),
-        Located::Outside => 4,
-    }
+    number
 }
 
 // The block joins, no byte written.

@@ -1,8 +1,7 @@
 -- The two areas of a good map: an address of the heap, and one of the stack, is a position of that area's shadows. Assumes nothing.
 use mathlib.Core.Path.{_≡_, refl, sym, _∙_}
 use mathlib.Core.Bool.{true, false}
-use mathlib.Core.List.{List}
-use Prim.Native.Nat.{ℕ, _+_, _-_, _%_, _≤_, _<_}
+use Prim.Native.Nat.{ℕ, _+_, _-_, _%_, _≤_}
 use native.Mathlib.Omega.{arith}
 use lib.ListN.{length}
 use lib.Dec.{leb, eqb}
@@ -16,33 +15,19 @@ use Rattle.map.proofs.MapLaws.{Good, good-true, within-true, true-within}
 use Rattle.plain.specs.Rules.{Rules}
 use Rattle.plain.specs.Areas.{heapRules, stackRules, mapRules}
 use Rattle.plain.specs.Reading.{Reading, nothing, block, damaged}
-use Rattle.plain.specs.Ops.{readAny}
 use Rattle.plain.specs.ShadowCalls.{lengthOf}
 use Rattle.plain.proofs.AreaLaws.{heap-shifted, heap-unshifted, stack-shifted, stack-unshifted}
 use Rattle.heap_layout.specs.Reading.{heapReading}
 use Rattle.heap_layout.specs.Ops.{heapOps}
 use Rattle.heap_layout.proofs.ReadingLaws as heap
 use Rattle.stack_layout.specs.Reading.{stackReading}
-use Rattle.stack_layout.specs.Ops.{StackShadows, stackOps}
+use Rattle.stack_layout.specs.Ops.{stackOps}
 use Rattle.stack_layout.proofs.ReadingLaws as stack
 use Rattle.shadows.specs.Shadows.{Shadows, lengthsFit, shadowOps}
 use Rattle.shadows.proofs.ShadowLaws.{Fit, fit-true}
 use Rattle.monitor_write_laws.specs.AreaCalls.{freeRefusal}
 use Rattle.monitor_base.proofs.LocatingLaws.{area-heap, area-stack, area-out, heap-room, stack-room}
 use Rattle.monitor_write_laws.proofs.AtLaws.{fits-same, aligned-same, range-at, At}
-
--- ---- a position of an area is read as its layout reads it
-
-pub heap-reads : (h : List ℕ) (p : ℕ) → p < length h
-    → (heapRules 8 0 (length h) .inside p ≡ true) × (readAny (heapRules 8 0 (length h)) (heapOps 4 8 (length h)) h p ≡ heapReading 4 8 (length h) (at h) p)
-unfolding readAny
-heap-reads h p k = let w = true-within 0 (length h) p (omega arith) (omega arith) in (w, cond-true _ _ _ w)
-
-pub stack-reads : (s : StackShadows) (p : ℕ) → p < length (s .0)
-    → (stackRules 0 (length (s .0)) .inside p ≡ true)
-    × (readAny (stackRules 0 (length (s .0))) (stackOps (length (s .0))) s p ≡ stackReading (length (s .0)) (at (s .0)) (at (s .1)) p)
-unfolding readAny
-stack-reads s p k = let w = true-within 0 (length (s .0)) p (omega arith) (omega arith) in (w, cond-true _ _ _ w)
 
 -- ---- a block that is read lies in its area
 
@@ -119,7 +104,6 @@ module _ (m : Map) (s : Shadows) (ok : goodMap m ≡ true) (fit : lengthsFit m s
         start = hs;
         whole = refl;
         inside = rw w;
-        inside-there = true-within 0 hz p (omega arith) (omega arith);
         fits = λ l. whole-fits w l ∙ fits-same hs H (heapRules 8 0 hz) down up a l p (f .0) q;
         aligned = λ l h. rw w (aligned-same hs H (heapRules 8 0 hz) down up a l p (f .0) q (sym (whole-fits w l) ∙ h));
         read = rw (w, q);
@@ -143,7 +127,6 @@ module _ (m : Map) (s : Shadows) (ok : goodMap m ≡ true) (fit : lengthsFit m s
         start = ss;
         whole = refl;
         inside = rw (v .0, v .1);
-        inside-there = true-within 0 sz p (omega arith) (omega arith);
         fits = λ l. rw (v .0) (fits-same ss (stackRules ss sz) (stackRules 0 sz) (stack-shifted ss sz) (stack-unshifted ss sz) a l p (f .0) q);
         aligned = λ l h. rw (v .0);
         read = rw (v .0, q);

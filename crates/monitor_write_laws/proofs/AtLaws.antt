@@ -11,11 +11,11 @@ use Rattle.plain.specs.Rules.{Rules}
 use Rattle.plain.specs.Reading.{Reading, nothing, block, damaged}
 use Rattle.plain.specs.Lift.{Shifted, readingUp}
 use Rattle.plain.specs.Ops.{Ops, markRange, readAny}
-use Rattle.plain.specs.Call.{Call, begin, free, written, Answer, done, firstOf, unless, byRules}
+use Rattle.plain.specs.Call.{Call, begin, free, Answer, done, firstOf, unless, byRules}
 use Rattle.plain.specs.ShadowCalls.{isDamaged, inOne, lengthOf, byShadows, shadowsAfter, shadowStep}
 use Rattle.plain.proofs.LiftLaws.{Unshifted}
 use Rattle.monitor_write_laws.specs.AreaCalls.{freeRefusal, writtenRefusal, freeAt}
-use Rattle.monitor_write_laws.proofs.StepLaws.{freed, free-is, written-is}
+use Rattle.monitor_write_laws.proofs.StepLaws.{freed, free-is}
 
 -- ---- an area's rules at a position
 
@@ -47,7 +47,6 @@ pub record At {S X : Type 0} (R : Rules) (O : Ops S) (s : S) (a : ℕ) (E : Rule
   pub start : ℕ
   pub whole : s ≡ put x
   pub inside : R .inside a ≡ true
-  pub inside-there : E .inside p ≡ true
   pub fits : (l : ℕ) → R .fits a l ≡ E .fits p l
   pub aligned : (l : ℕ) → R .fits a l ≡ true → R .aligned a ≡ E .aligned p
   pub read : O .read s a ≡ readingUp start (P .read x p)
@@ -73,10 +72,6 @@ written-passed n r e = go (isDamaged r) (inOne n r) e
     go false true e = refl
     go false false e = absurd (omega arith)
 
-unless-3 : (t : Bool) (k : ℕ) → cond t 3 k ≡ 0 → k ≡ 0
-unless-3 true k e = absurd (omega arith)
-unless-3 false k e = e
-
 module _ {S X : Type 0} (R : Rules) (O : Ops S) (s : S) (a : ℕ) (E : Rules) (P : Ops X) (x : X) (p : ℕ) (put : X → S) (i : At R O s a E P x p put) where
   -- the same number, and what is accepted beside the rest
   beside-same : (k j : ℕ) (t : S) (y : X) → k ≡ j → (j ≡ 0 → t ≡ put y) → unless k s (t, done) ≡ beside put (unless j x (y, done))
@@ -101,10 +96,6 @@ module _ {S X : Type 0} (R : Rules) (O : Ops S) (s : S) (a : ℕ) (E : Rules) (P
   unfolding readAny
   there = rw (i .inside) (i .read)
 
-  here : readAny E P x p ≡ P .read x p
-  unfolding readAny
-  here = rw (i .inside-there)
-
   -- where no area holds address 0
   pub free-at : R .inside 0 ≡ false → shadowStep R O (free a) s ≡ beside put (freeAt P p x)
   free-at n = free-is R O s a (λ z. not-both (R .inside a) (i .inside) (ap (R .inside) z ∙ n)) true _ (i .inside) there ∙ go (P .read x p)
@@ -113,20 +104,3 @@ module _ {S X : Type 0} (R : Rules) (O : Ops S) (s : S) (a : ℕ) (E : Rules) (P
       go nothing = rw (i .whole)
       go damaged = rw (i .whole)
       go (block b l o w) = beside-same _ (cond (not (eqb o 0)) 7 0) _ (P .erase x p l) refl (λ z. i .erase l)
-
-  pub written-at : (n : ℕ) → shadowStep R O (written a n) s ≡ beside put (shadowStep E P (written p n) x)
-  written-at n =
-      written-is R O s a n true _ (i .inside) there
-      ∙ beside-same (number (readingUp (i .start) r)) (number r) (markRange O s a n) (markRange P x p n) (up r) (λ z. i .mark n (written-passed n r (unless-3 (eqb n 0) (writtenRefusal n r) z)))
-      ∙ sym (ap (beside put) (written-is E P x p n true _ (i .inside-there) here))
-    where
-      r : Reading
-      r = P .read x p
-
-      number : Reading → ℕ
-      number r = cond (eqb n 0) 3 (writtenRefusal n r)
-
-      up : (r : Reading) → number (readingUp (i .start) r) ≡ number r
-      up nothing = refl
-      up (block b l o w) = refl
-      up damaged = refl

@@ -14,7 +14,7 @@ use Rattle.plain.specs.ShadowCalls.{shadowStep}
 use Rattle.shadows.specs.Shadows.{Shadows, lengthsFit, shadowOps}
 use Rattle.shadows.proofs.ShadowLaws.{Fit, fit-true}
 
-filled : (h : List ℕ) (n : ℕ) → length h ≡ n → over 0 (length h) (λ q. 0) h ≡ replicate n 0
+pub filled : (h : List ℕ) (n : ℕ) → length h ≡ n → over 0 (length h) (λ q. 0) h ≡ replicate n 0
 filled h n e =
     is-tab n (over 0 (length h) (λ q. 0) h) (λ q. 0) (length-over 0 (length h) (λ q. 0) h ∙ e)
     (λ q k. over-in 0 (length h) (λ q. 0) h q (omega arith) (omega arith) (omega arith)) ∙ tab-zero n 0 (λ q. 0) (λ q. refl)

@@ -3,4 +3,8 @@ pub mod ClearingLaws
 pub mod StepLaws
 pub mod AtLaws
 pub mod AreaLaws
+pub mod CheckLaws
 pub mod RecordingLaws
+pub mod RecordChecks
+pub mod FreeChecks
+pub mod WrittenChecks

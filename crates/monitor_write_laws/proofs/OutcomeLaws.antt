@@ -1,8 +1,7 @@
 -- What a call that answers its number alone comes to. Assumes nothing.
-use mathlib.Core.Path.{_≡_, sym, ap, _∙_}
+use mathlib.Core.Path.{_≡_, sym, _∙_}
 use mathlib.Core.Bool.{true}
 use mathlib.Core.Logic.{_≢_}
-use mathlib.Core.List.{List}
 use Prim.Native.Nat.{ℕ}
 use Rattle.map.specs.declared.Map.{Map}
 use Rattle.map.specs.Map.{goodMap}
@@ -12,8 +11,6 @@ use Rattle.plain.specs.Call as plain
 use Rattle.plain.specs.ShadowCalls.{shadowStep}
 use Rattle.shadows.specs.Shadows.{Shadows, lengthsFit, shadowOps}
 use Rattle.monitor_base.specs.Calls.{call}
-use Rattle.stack_layout.specs.Ops.{StackShadows}
-use Rattle.monitor_write_laws.proofs.AtLaws.{beside}
 use Rattle.monitor_base.proofs.CallLaws.{early, call-early, early-good, call-step}
 
 module _ (m : Map) (c : Call) (s : Shadows) (k : ℕ) (e : k ≡ early m s) (x : plain.Answer) where
@@ -25,14 +22,3 @@ module _ (m : Map) (c : Call) (s : Shadows) (k : ℕ) (e : k ≡ early m s) (x :
   pub stepped : k ≡ 0 → (t : Shadows) (a : plain.Answer) → x ≡ a
       → (goodMap m ≡ true → lengthsFit m s ≡ true → shadowStep (mapRules m) (shadowOps m) c s ≡ (t, a)) → (t, x) ≡ call m c s
   stepped z t a h q = let g = early-good m s (sym z ∙ e) in rw (h, call-step m c s (g .0) (g .1), q (g .0) (g .1))
-
-  -- what one area's call left, the other area as it was
-  pub stepped-heap : k ≡ 0 → (t : List ℕ) (j : ℕ) (q : List ℕ × plain.Answer) → x ≡ refusal j → (t, refusal j) ≡ q
-      → (goodMap m ≡ true → lengthsFit m s ≡ true → shadowStep (mapRules m) (shadowOps m) c s ≡ beside (λ h. (h, s .1)) q)
-      → _≡_ {A = Shadows × plain.Answer} ((t, s .1), x) (call m c s)
-  stepped-heap z t j q h y f = stepped z (t, s .1) (refusal j) h (λ ok fit. f ok fit ∙ ap (beside (λ h. (h, s .1))) (sym y))
-
-  pub stepped-stack : k ≡ 0 → (t : StackShadows) (j : ℕ) (q : StackShadows × plain.Answer) → x ≡ refusal j → (t, refusal j) ≡ q
-      → (goodMap m ≡ true → lengthsFit m s ≡ true → shadowStep (mapRules m) (shadowOps m) c s ≡ beside (λ t. (s .0, t)) q)
-      → _≡_ {A = Shadows × plain.Answer} ((s .0, t), x) (call m c s)
-  stepped-stack z t j q h y f = stepped z (s .0, t) (refusal j) h (λ ok fit. f ok fit ∙ ap (beside (λ t. (s .0, t))) (sym y))

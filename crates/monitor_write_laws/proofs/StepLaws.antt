@@ -14,20 +14,13 @@ use Rattle.plain.specs.Call.{Call, begin, free, written, Answer, refusal, done,
 use Rattle.plain.specs.ShadowCalls.{isDamaged, isFirst, inOne, lengthOf, shadowStep}
 use Rattle.monitor_write_laws.specs.AreaCalls.{freeRefusal, writtenRefusal, freeAt}
 
--- refused by a number that is known by an equation, or accepted
+-- accepted, by a number that is known by an equation
 module _ {S : Type 0} (s : S) where
-  by-number : (j k : ℕ) (x : S × Answer) → k ≡ j → k ≢ 0 → unless j s x ≡ (s, refusal k)
-  by-number zero k x e n = absurd (n e)
-  by-number (suc j) k x e n = rw e
-
   by-zero : (j k : ℕ) (t u : S) → k ≡ j → k ≡ 0 → u ≡ t → unless j s (t, done) ≡ (u, refusal k)
   by-zero j k t u e z h = rw (← e, z, h)
 
 -- free at a position, and the number k that the reading there decides
 module _ {S : Type 0} (O : Ops S) (s : S) (p k : ℕ) (q : k ≡ freeRefusal (O .read s p)) where
-  pub free-refused : k ≢ 0 → freeAt O p s ≡ (s, refusal k)
-  free-refused n = by-number s (freeRefusal (O .read s p)) k (O .erase s p (lengthOf (O .read s p)), done) q n
-
   pub free-done : k ≡ 0 → (l : ℕ) → l ≡ lengthOf (O .read s p) → (t : S) → t ≡ O .erase s p l → freeAt O p s ≡ (t, refusal k)
   free-done z l e t h = by-zero s (freeRefusal (O .read s p)) k (O .erase s p (lengthOf (O .read s p))) t q z (h ∙ ap (O .erase s p) e)
 
@@ -89,13 +82,7 @@ module _ {S : Type 0} (R : Rules) (O : Ops S) (s : S) where
     pub written-4 : (n : ℕ) → n ≢ 0 → R .inside a ≡ false → step (written a n) ≡ (s, refusal 4)
     written-4 n m i = written-is n false (readAny R O s a) i refl ∙ rw (ne-eqb n 0 m)
 
-    -- an address of an area, its reading, and the number k that the reading decides
-    module _ (i : R .inside a ≡ true) (r : Reading) (e : readAny R O s a ≡ r) (k : ℕ) (n : ℕ) (m : n ≢ 0) (q : k ≡ writtenRefusal n r) where
-      marked : step (written a n) ≡ unless (writtenRefusal n r) s (markRange O s a n, done)
-      marked = written-is n true r i e ∙ rw (ne-eqb n 0 m)
-
-      pub written-refused : k ≢ 0 → step (written a n) ≡ (s, refusal k)
-      written-refused x = marked ∙ by-number s (writtenRefusal n r) k (markRange O s a n, done) q x
-
-      pub written-done : k ≡ 0 → (t : S) → t ≡ markRange O s a n → step (written a n) ≡ (t, refusal k)
-      written-done z t h = marked ∙ by-zero s (writtenRefusal n r) k (markRange O s a n) t q z h
+    -- an address of an area, by its reading
+    pub written-reads : R .inside a ≡ true → (r : Reading) → readAny R O s a ≡ r → (n : ℕ) → n ≢ 0
+        → step (written a n) ≡ unless (writtenRefusal n r) s (markRange O s a n, done)
+    written-reads i r e n m = written-is n true r i e ∙ rw (ne-eqb n 0 m)

@@ -22,13 +22,7 @@ writtenRefusal n r = firstOf ((8, isDamaged r) ∷ (7, not (inOne n r)) ∷ [])
 abbrev pub freeAt : {S : Type 0} → Ops S → (p : ℕ) → S → S × Answer
 freeAt O p s = unless (freeRefusal (O .read s p)) s (O .erase s p (lengthOf (O .read s p)), done)
 
-abbrev pub freeHeap : (p : ℕ) → List ℕ → List ℕ × Answer
-freeHeap p h = freeAt (heapOps 4 8 (length h)) p h
-
-abbrev pub freeStack : (p : ℕ) → StackShadows → StackShadows × Answer
-freeStack p s = freeAt (stackOps (length (s .0))) p s
-
--- recording and written by a position, as on an area that begins at address 0. Not free, which has a case for that address
+-- a record by a position, as on an area that begins at address 0
 abbrev pub onHeap : Call → List ℕ → List ℕ × Answer
 onHeap c h = shadowStep (heapRules 8 0 (length h)) (heapOps 4 8 (length h)) c h
 

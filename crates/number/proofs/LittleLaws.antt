@@ -8,7 +8,7 @@ use lib.ListN.{length, set, take, drop}
 use lib.Pow.{pow-add}
 use lib.Seq.{drop-cons, take-all}
 use Rattle.number.specs.Little.{le, bytesOf, Bytes, byteOf, word}
-use Rattle.number.specs.Parts.{at}
+use Rattle.number.specs.Parts.{at, tab}
 
 -- a number that fits w bytes comes back
 pub le-bytesOf : (w n : ℕ) → n < 256 ^ w → le (bytesOf w n) ≡ n
@@ -54,6 +54,12 @@ pub byteOf-zero : (i : ℕ) → byteOf 0 i ≡ 0
 unfolding byteOf
 byteOf-zero zero = refl
 byteOf-zero (suc i) = byteOf-zero i
+
+-- a table of bytes
+pub bytes-tab : (f : ℕ → ℕ) → ((q : ℕ) → f q < 256) → (n i : ℕ) → Bytes (tab i n f)
+unfolding tab
+bytes-tab f h zero i = tt
+bytes-tab f h (suc n) i = (h i, bytes-tab f h n (suc i))
 
 -- byte j of a number, by a shift
 pub byteOf-shift : (n j : ℕ) → n / 2 ^ (8 * j) % 256 ≡ byteOf n j

@@ -10,6 +10,7 @@ pub mod ReadBackLaws
 pub mod ImageLaws
 pub mod LayerLaws
 pub mod SameLaws
+pub mod AnswerLaws
 pub mod RunLaws
 pub mod BegunLaws
 pub mod ClimbLaws

@@ -92,7 +92,7 @@ listed-low R (next a) bs = (omega arith, tt)
 listed-low R audit bs = tt
 
 -- an accepted call has number 0
-accepted-0 : (R : Rules) (c : Call) (bs : List Block) → number (listAnswer R c bs) ≡ 0
+pub accepted-0 : (R : Rules) (c : Call) (bs : List Block) → number (listAnswer R c bs) ≡ 0
 accepted-0 R clear bs = refl
 accepted-0 R (begin w b l) bs = refl
 accepted-0 R (free x) bs = refl

@@ -1,8 +1,8 @@
--- What is promised of the library and of the calls program, every statement on one page, in the order of document 01 and of the requests.
+-- What is promised of the library and of the calls programs, every statement on one page, in the order of document 01 and of the requests.
 -- `proofs/Promises.antt` proves this one type. `call m c s` is the shadows after a call and its answer, for any map m, call c and shadows s; that
 -- each function of `monitor` gives what `call` says is its contract. Each name below is a statement of a few lines: those of the library stand in
--- crates/demands/specs, in the file that the group names, those of the calls program in crates/calls_format/specs and calls_file/specs. Assumes
--- nothing.
+-- crates/demands/specs, in the file that the group names, those of the calls programs in crates/calls_format/specs, calls_origins_format/specs
+-- and calls_file/specs. Assumes nothing.
 use Rattle.demands.specs.Demand1.{RefusedAltersNothing, QuestionsAlterNothing, ByTheTable, AcceptedExactly, LowestWins, ItsRowHolds, SevenWithoutEight, EightOnlyThere, EightThere}
 use Rattle.demands.specs.Good.{GoodExactly, LengthsExactly, AreasExactly}
 use Rattle.demands.specs.Alters.{LengthsKept, ZeroExactly, RecordStamps, BytesStart, FreeZeroes, WrittenMarks}
@@ -14,9 +14,22 @@ use Rattle.demands.specs.Null.{NullOutside, NoBlockAtNull, FreeOfNull, FreeOuts
 use Rattle.demands.specs.Samples.{SamplesHold}
 use Rattle.demands.specs.MapSamples.{MapSamplesHold}
 use Rattle.demands.specs.DamageSamples.{DamageSamplesHold}
+use Rattle.demands_origins.specs.Demand1 as origins
+use Rattle.demands_origins.specs.Demand3 as origins-runs
+use Rattle.demands_origins.specs.PlainKinds.{PlainNumbers, PlainAccepted, AuditPlain}
+use Rattle.demands_origins.specs.Alters.{RecordStores, FreeZeroesCells, ClearZeroesCells, CounterLeft, CellsLeft, ShadowsLeft, CellLengthsKept, PointRefers, CopyRefers, LiveTold}
+use Rattle.demands_origins.specs.Demand3.{StaysCarried, ReachedCarries, CellsHold}
+use Rattle.demands_origins.specs.Judged.{HistoryEachCall, JudgedByHistory, CounterCounts}
+use Rattle.demands_origins.specs.Samples as origins-samples
 use Rattle.calls_format.specs.Running.{SameRun, NeverDamaged}
 use Rattle.calls_format.specs.NewMapSamples.{NewMapSamplesHold}
+use Rattle.calls_format.specs.Program.{plainProgram}
 use Rattle.calls_file.specs.File.{WholeFile}
+use Rattle.demands_calls.specs.Programs.{KindsTold, OwnKinds, OthersAsPlain, ServesCalls, ServesMaps}
+use Rattle.demands_calls.specs.Files.{FilesHold}
+use Rattle.calls_origins_format.specs.Running as origins-program
+use Rattle.calls_origins_format.specs.Samples as origins-taken
+use Rattle.calls_origins_format.specs.Program.{originsProgram}
 
 pub record Promises : Type 0 where
   -- ---- Demand 1: every call, on every input (Demand1.antt; the table of refusals is Numbers.antt)
@@ -111,6 +124,51 @@ pub record Promises : Type 0 where
   pub free-of-null : FreeOfNull
   -- every other address outside both areas is still 4
   pub free-outside : FreeOutside
+  -- ---- S-4: the form with origins (crates/demands_origins/specs). Its call is on block shadows, cells and counter
+
+  -- demand 1, of every call on every input: a refusal has zero fields and alters no byte of shadows and cells, and not the counter; the number is
+  -- that of the first row of the table that holds; accepted exactly if none does; the lowest wins (Demand1.antt, Numbers.antt)
+  pub origins-refused-alters-nothing : origins.RefusedAltersNothing
+  pub origins-by-the-table : origins.ByTheTable
+  pub origins-accepted-exactly : origins.AcceptedExactly
+  pub origins-lowest-wins : origins.LowestWins
+  pub origins-its-row-holds : origins.ItsRowHolds
+  -- the plain kinds are the plain form's but for 2 of the cells' lengths, 5 and 12; where accepted, fields and block shadows are its; image and
+  -- audit are its, over the three block shadows alone (PlainKinds.antt)
+  pub plain-numbers : PlainNumbers
+  pub plain-accepted : PlainAccepted
+  pub audit-plain : AuditPlain
+  -- what each call alters of cells and counter, byte by byte, on any bytes, and what kind 13 answers there (Alters.antt)
+  pub record-stores : RecordStores
+  pub free-zeroes-cells : FreeZeroesCells
+  pub clear-zeroes-cells : ClearZeroesCells
+  pub counter-left : CounterLeft
+  pub cells-left : CellsLeft
+  pub shadows-left : ShadowsLeft
+  pub cell-lengths-kept : CellLengthsKept
+  pub point-refers : PointRefers
+  pub copy-refers : CopyRefers
+  pub live-told : LiveTold
+  -- demand 3: from cleared shadows, zero cells and counter 1, the number, every field and, after each call, every shadow byte, every byte of the
+  -- cells and the counter are those of the plain list of this form; 8 is never given (Demand3.antt)
+  pub origins-runs-each-call : origins-runs.RunsEachCall
+  pub origins-whole-run : origins-runs.WholeRun
+  pub origins-no-damage : origins-runs.NoDamage
+  -- the same of every list that carries what it should, which every call keeps; and after clear, from any bytes of the right lengths and any
+  -- counter from 1 to 4,294,967,296
+  pub origins-on-every-image : origins-runs.OnEveryImage
+  pub stays-carried : StaysCarried
+  pub origins-cleared-run : origins-runs.ClearedRun
+  pub reached-carries : ReachedCarries
+  -- with the two before: the cells hold exactly a live block's origin at its base's cell, a set pointer's referent at its own, zero elsewhere
+  pub cells-hold : CellsHold
+  -- kind 13 is judged by the history of calls, for runs of any length (Judged.antt)
+  pub history-each-call : HistoryEachCall
+  pub judged-by-history : JudgedByHistory
+  -- and so is 12: the counter goes up by one for each accepted recording
+  pub counter-counts : CounterCounts
+  -- samples: the first counter, the bytes of a number, numbers at their edges, runs (Samples.antt)
+  pub origins-samples-hold : origins-samples.SamplesHold
   -- ---- samples (Samples.antt, MapSamples.antt, DamageSamples.antt, ByteSamples.antt)
 
   -- the marked samples, the worked example, edges, blocks that begin written, and numbers above 255
@@ -126,6 +184,31 @@ pub record Promises : Type 0 where
   -- and none of the answers is 8
   pub never-damaged : NeverDamaged
   -- whatever the reads bring, and wherever they end: all that goes to the output is what the file prints
-  pub whole-file : WholeFile
+  pub whole-file : WholeFile plainProgram
   -- samples: which maps it takes, at the edges of its sizes
   pub new-map-samples-hold : NewMapSamplesHold
+  -- ---- S-4: the calls program of the form with origins (calls_origins_format, Running.antt and Samples.antt; calls_file, File.antt)
+
+  -- for every list of requests, maps among them: the answers, and after each the map, every byte of shadows and cells, and the counter are those of
+  -- the plain list of the form; and none of the answers is 8
+  pub origins-same-run : origins-program.SameRun
+  pub origins-never-damaged : origins-program.NeverDamaged
+  -- whatever the reads bring, and wherever they end: all that goes to the output is what the file prints
+  pub origins-whole-file : WholeFile originsProgram
+  -- it takes the plain program's records as that one does
+  pub takes-plain-kinds : origins-taken.TakesPlainKinds
+  -- samples: records of kinds 11 to 13, and that an accepted map leaves the counter
+  pub origins-record-samples-hold : origins-taken.RecordSamplesHold
+  pub origins-new-map-samples-hold : origins-taken.NewMapSamplesHold
+  -- ---- both calls programs (demands_calls, Programs.antt and Files.antt)
+
+  -- a line has the kind of its record, whose length is the one that it says
+  pub kinds-told : KindsTold
+  -- only in the form with origins do kinds 11 to 13 decode, 12 bytes each, and every other record as in the plain program
+  pub own-kinds : OwnKinds
+  pub others-as-plain : OthersAsPlain
+  -- a call is served as the library's; an accepted map clears and leaves the counter, a refused one keeps all
+  pub serves-calls : ServesCalls
+  pub serves-maps : ServesMaps
+  -- samples: what two files print, every kind's line among them
+  pub files-hold : FilesHold

@@ -48,7 +48,7 @@ fn store_at(line: &[u8], at: usize, shadow: &mut [u8]) -> Place
 }
 
 // Bytes of the shadow of this name; the place itself where they do not stand there.
-fn store_named(line: &[u8], at: usize, name: &[u8], shadow: &mut [u8]) -> usize
+pub fn store_named(line: &[u8], at: usize, name: &[u8], shadow: &mut [u8]) -> usize
     ensures { λ r. ⌜ ended r (now (shadow .exit)) ≡ storeNamed (now (line .entry)) at (now (name .entry)) (now (shadow .entry)) ⌝ }
 {
     let place = samples_text::after_word(line, at, name);
@@ -61,7 +61,7 @@ fn store_named(line: &[u8], at: usize, name: &[u8], shadow: &mut [u8]) -> usize
     end
 }
 
-fn larger(a: usize, b: usize) -> usize
+pub fn larger(a: usize, b: usize) -> usize
     ensures { λ r. ⌜ r ≡ cond (ltb a b) b a ⌝ }
 {
     if a < b { b } else { a }

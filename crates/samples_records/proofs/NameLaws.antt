@@ -10,7 +10,7 @@ use Rattle.number.specs.Parts.{Each}
 use Rattle.number.proofs.TestLaws.{Test, is-true, is-false, test}
 use Rattle.samples_records.specs.declared.names.Named.{Named}
 use Rattle.samples_text.specs.Text.{afterName}
-use Rattle.samples_records.specs.Names.{nameIn, orNamed, orNames, changingNames, readingNames, callNames}
+use Rattle.samples_records.specs.Names.{nameIn, orNamed, orNames, changingNames, readingNames, pointerNames, callNames}
 
 none-yet : (f : Named) → f .kind ≤ 0 → record { kind = 0; at = f .at } ≡ f
 none-yet f h = let z : f .kind ≡ 0 = omega arith in rw (← z)
@@ -64,8 +64,10 @@ or-names line f [] ns = refl
 or-names line f (m ∷ ms) ns = or-names line (orNamed line f m) ms ns
 
 -- what is found among the names of calls
-pub called : (line : List ℕ) (p : ℕ) (f r : Named) → f ≡ orNames line (record { kind = 0; at = p }) changingNames → r ≡ orNames line f readingNames
-    → (r ≡ nameIn line p callNames) × (r .kind ≤ 65535)
-called line p f r e d =
-    let w : r ≡ nameIn line p callNames = d ∙ ap (λ (x : Named). orNames line x readingNames) e ∙ or-names line _ changingNames readingNames ∙ names-first line p callNames (omega arith) in
+pub called : (line : List ℕ) (p : ℕ) (f g r : Named) → f ≡ orNames line (record { kind = 0; at = p }) changingNames → g ≡ orNames line f readingNames
+    → r ≡ orNames line g pointerNames → (r ≡ nameIn line p callNames) × (r .kind ≤ 65535)
+called line p f g r e d c =
+    let z : Named = record { kind = 0; at = p } in
+    let h : g ≡ orNames line z (changingNames ++ readingNames) = d ∙ ap (λ (x : Named). orNames line x readingNames) e ∙ or-names line z changingNames readingNames in
+    let w : r ≡ nameIn line p callNames = c ∙ ap (λ (x : Named). orNames line x pointerNames) h ∙ or-names line z (changingNames ++ readingNames) pointerNames ∙ names-first line p callNames (omega arith) in
     (w, rw w (kind-most line p 65535 callNames (omega arith)))

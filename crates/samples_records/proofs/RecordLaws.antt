@@ -6,12 +6,13 @@ use Prim.Native.Nat.{ℕ, zero, suc, _+_, _*_, _-_, _/_, _≤_, _<_}
 use native.Mathlib.Omega.{arith}
 use lib.ListN.{length}
 use borrow.Author.Tests.{le-leb, lt-leb, lt-ltb, le-ltb}
-use Rattle.samples_text.specs.Text.{skipFrom, skipSpaces, gapAt, numberAt}
+use Rattle.samples_text.specs.Text.{skipFrom, skipSpaces, gapAt, endAt, numberAt}
 use Rattle.samples_text.specs.declared.Number.{Number}
 use Rattle.samples_text.specs.declared.Number.the-variants as number
 use Rattle.samples_records.specs.declared.Fields.{Fields}
 use Rattle.samples_records.specs.declared.Item.the-variants as item
-use Rattle.samples_records.specs.Records.{Numbers, numbersAt, recordLength, fieldsOf, putNumber, putNumbers, putRecord, itemAt, itemBytes}
+use Rattle.samples_records.specs.declared.names.Named.{Named}
+use Rattle.samples_records.specs.Records.{Numbers, numbersAt, recordLength, fieldsOf, putNumber, putNumbers, putRecord, callOf, bytesOf, itemAt, itemBytes}
 
 module _ (n : ℕ) (line : List ℕ) (p : ℕ) where
   none-more : numberAt line (skipSpaces line p) ≡ number.Missing → numbersAt n line p ≡ record { values = []; end = p }
@@ -79,6 +80,22 @@ module _ {line : List ℕ} {p : ℕ} {h₀ h : List ℕ} {k q : ℕ} (c : Puttin
 pub head-put : (kind : ℕ) (ns : Numbers) (f : Fields) (h h₁ h₂ : List ℕ) → f ≡ fieldsOf ns → h₁ ≡ putNumbers 4 (ns .values) h
     → h₂ ≡ putNumber 0 (f .length + 65536 * kind) h₁ → h₂ ≡ putRecord kind (ns .values) h
 head-put kind ns f h h₁ h₂ a b e = e ∙ rw (a, b)
+
+-- ---- calls: m is the name that is found, f and h′ are what its record gives
+
+module _ (line : List ℕ) (n m : Named) (h : List ℕ) (w : m ≡ n) (f : Fields) (h′ : List ℕ) (g : Bool) (x : f ≡ fieldsOf (numbersAt 15 line (m .at)))
+    (y : h′ ≡ putRecord (m .kind) (numbersAt 15 line (m .at) .values) h) (j : g ≡ endAt line (f .at)) where
+  pub call-whole : g ≡ true → (item.Record (f .length) (f .at) ≡ callOf line n) × (h′ ≡ bytesOf line n h)
+  unfolding callOf
+  call-whole z =
+      let t : endAt line (numbersAt 15 line (m .at) .end) ≡ true = sym (sym z ∙ rw x at j) in
+      rw (← w) (rw (t, x) refl, y)
+
+  pub call-goes-on : g ≡ false → (item.Malformed ≡ callOf line n) × (h′ ≡ bytesOf line n h)
+  unfolding callOf
+  call-goes-on z =
+      let t : endAt line (numbersAt 15 line (m .at) .end) ≡ false = sym (sym z ∙ rw x at j) in
+      rw (← w) (rw t refl, y)
 
 -- ---- items
 

@@ -49,5 +49,16 @@ readingNames =
     (97 ∷ 117 ∷ 100 ∷ 105 ∷ 116 ∷ [], 9) ∷
     []
 
+-- the calls of pointers
+abbrev pub pointerNames : List (List ℕ × ℕ)
+pointerNames =
+    -- point
+    (112 ∷ 111 ∷ 105 ∷ 110 ∷ 116 ∷ [], 11) ∷
+    -- copy
+    (99 ∷ 111 ∷ 112 ∷ 121 ∷ [], 12) ∷
+    -- live
+    (108 ∷ 105 ∷ 118 ∷ 101 ∷ [], 13) ∷
+    []
+
 abbrev pub callNames : List (List ℕ × ℕ)
-callNames = changingNames ++ readingNames
+callNames = changingNames ++ readingNames ++ pointerNames

@@ -6,7 +6,9 @@ use lib.ListN.{length}
 use lib.Dec.{leb, ltb}
 use Rattle.number.specs.Little.{byteOf}
 use Rattle.number.specs.Parts.{over}
-use Rattle.samples_text.specs.Text.{skipFrom, skipSpaces, gapAt, numberAt, byNumber}
+use Rattle.samples_text.specs.Text.{skipFrom, skipSpaces, gapAt, endAt, numberAt, byNumber}
+use Rattle.samples_records.specs.Names.{nameIn, callNames}
+use Rattle.samples_records.specs.declared.names.Named.{Named}
 use Rattle.samples_records.specs.declared.Fields.{Fields}
 use Rattle.samples_records.specs.declared.Item.{Item}
 use Rattle.samples_records.specs.declared.Item.the-variants as item
@@ -43,6 +45,23 @@ putNumbers q (v ∷ vs) bytes = putNumbers (q + 4) vs (putNumber q v bytes)
 -- the head is length and kind, two bytes each; then the fields
 abbrev pub putRecord : (kind : ℕ) → (values bytes : List ℕ) → List ℕ
 putRecord kind vs bytes = putNumber 0 (recordLength vs + 65536 * kind) (putNumbers 4 vs bytes)
+
+-- the record of a call by its name, where its numbers end the line; its length, and the place after it
+unfoldable pub callOf : (line : List ℕ) → Named → Item
+callOf line n =
+    cond (endAt line (numbersAt 15 line (n .at) .end)) (item.Record (recordLength (numbersAt 15 line (n .at) .values)) (numbersAt 15 line (n .at) .end))
+    item.Malformed
+
+-- the call whose name stands at place p
+abbrev pub callAt : (line : List ℕ) → (p : ℕ) → Item
+callAt line p = callOf line (nameIn line p callNames)
+
+-- its record is put over the bytes
+abbrev pub bytesOf : (line : List ℕ) → Named → (bytes : List ℕ) → List ℕ
+bytesOf line n bytes = putRecord (n .kind) (numbersAt 15 line (n .at) .values) bytes
+
+abbrev pub callBytes : (line : List ℕ) → (p : ℕ) → (bytes : List ℕ) → List ℕ
+callBytes line p bytes = bytesOf line (nameIn line p callNames) bytes
 
 -- the record after the gap at place p: a kind of two bytes, then its fields, and a gap; its length, and the place after it
 unfoldable pub itemAt : (line : List ℕ) → (p : ℕ) → Item

@@ -67,6 +67,20 @@ pub fn put(line: &[u8], at: usize, kind: u32, bytes: &mut [u8; 64]) -> Fields
     put_record(line, at, kind, bytes)
 }
 
+// The record of the call whose name stands at a place, where its numbers end the line.
+pub fn call_at(line: &[u8], at: usize, bytes: &mut [u8; 64]) -> Item
+    ensures { λ r. ⌜ (r ≡ records.callAt (now (line .entry)) at)
+        × (now (bytes .exit) ≡ records.callBytes (now (line .entry)) at (now (bytes .entry))) ⌝ }
+{
+    let name = names::name_at(line, at);
+    let fields = put(line, name.at, name.kind, bytes);
+    if samples_text::at_end(line, fields.at) {
+        Item::Record(fields.length, fields.at)
+    } else {
+        Item::Malformed
+    }
+}
+
 // The record that begins at a place, after spaces and semicolons: its kind, then its fields.
 pub fn item_at(line: &[u8], at: usize, bytes: &mut [u8; 64]) -> Item
     ensures { λ r. ⌜ (r ≡ records.itemAt (now (line .entry)) at)

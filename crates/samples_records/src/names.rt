@@ -1,7 +1,7 @@
 // The names of the calls that have a record.
 ghost use mathlib.Core.Path.{_≡_};
 ghost use Prim.Native.Nat.{_≤_};
-ghost use Rattle.samples_records.specs.Names.{orNamed, orNames, nameIn, changingNames, readingNames, callNames};
+ghost use Rattle.samples_records.specs.Names.{orNamed, orNames, nameIn, changingNames, readingNames, pointerNames, callNames};
 
 // A call's kind, and the place after its name; kind 0, and the place of the name, while none is found.
 pub struct Named {
@@ -44,9 +44,18 @@ fn reading(found: Named, line: &[u8]) -> Named
     or(found, line, b"audit", 9)
 }
 
+// The calls of pointers, which the form with origins alone has.
+fn pointing(found: Named, line: &[u8]) -> Named
+    ensures { λ r. ⌜ r ≡ orNames (now (line .entry)) found pointerNames ⌝ }
+{
+    let mut found = or(found, line, b"point", 11);
+    found = or(found, line, b"copy", 12);
+    or(found, line, b"live", 13)
+}
+
 // The call whose name stands at a place.
 pub fn name_at(line: &[u8], at: usize) -> Named
     ensures { λ r. ⌜ (r ≡ nameIn (now (line .entry)) at callNames) × (r .kind ≤ 65535) ⌝ }
 {
-    reading(changing(Named { kind: 0, at }, line), line)
+    pointing(reading(changing(Named { kind: 0, at }, line), line), line)
 }

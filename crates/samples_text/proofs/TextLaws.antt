@@ -3,7 +3,7 @@ use mathlib.Core.Path.{_≡_, refl, sym, ap, _∙_}
 use mathlib.Core.Bool.{Bool, true, false, cond, not, _&&_, _||_}
 use mathlib.Core.List.{List, [], _∷_}
 use mathlib.Core.Logic.{_≢_}
-use Prim.Native.Nat.{ℕ, zero, suc, _+_, _*_, _-_, _≤_, _<_}
+use Prim.Native.Nat.{ℕ, zero, suc, _+_, _*_, _-_, _/_, _≤_, _<_}
 use native.Mathlib.Omega.{arith}
 use native.Mathlib.Nat.{add-zero, add-suc, suc-add}
 use native.Mathlib.Numerals.{add-one}
@@ -13,9 +13,10 @@ use lib.Dec.{leb, ltb, eqb}
 use borrow.Author.Tests.{lt-ltb, le-ltb, le-leb, lt-leb, eq-eqb, ne-eqb, leb-true}
 use Rattle.number.proofs.TestLaws.{Test, is-true, is-false, test, and-true}
 use Rattle.number.specs.Parts.{at}
+use Rattle.samples_text.specs.declared.Long.the-variants as long
 use Rattle.samples_text.specs.declared.Number.the-variants as number
 use Rattle.samples_text.specs.declared.Place.the-variants as place
-use Rattle.samples_text.specs.Text.{leading, skipFrom, endsBy, afterByte, begins, afterWord, afterName, isDigit, digits, valueFrom, between, numberAt}
+use Rattle.samples_text.specs.Text.{leading, skipFrom, endsBy, afterByte, begins, afterWord, afterName, isDigit, digits, valueFrom, between, longAt, numberAt}
 
 -- past its end a line has nothing
 pub drop-past : (p : ℕ) (l : List ℕ) → length l ≤ p → drop p l ≡ []
@@ -114,7 +115,7 @@ module _ (line : List ℕ) (p : ℕ) (name : List ℕ) (e : ℕ) (w : e ≡ afte
 -- ---- numbers: v is the value of the digits before place i
 
 pub record Counted (line : List ℕ) (p v i : ℕ) : Type 0 where
-  pub small : v ≤ 4294967295
+  pub small : v ≤ 18446744073709551615
   pub value : valueFrom 0 (digits (drop p line)) ≡ valueFrom v (digits (drop i line))
   pub ends : p + length (digits (drop p line)) ≡ i + length (digits (drop i line))
 
@@ -156,35 +157,27 @@ pub digit-high : (b : ℕ) → 48 ≤ b → 58 ≤ b → DigitAt 10 b
 digit-high b h k = rw (le-leb 48 b h, lt-leb b 57 (omega arith))
 
 module _ (v p q : ℕ) where
-  pub between-none : p ≡ q → between v p q ≡ number.Missing
+  pub between-none : p ≡ q → between v p q ≡ long.Missing
   unfolding between
   between-none e = rw (eq-eqb p q e)
 
-  pub between-fits : p ≢ q → v ≤ 4294967295 → between v p q ≡ number.Is v q
+  pub between-some : p ≢ q → between v p q ≡ long.Is v q
   unfolding between
-  between-fits d h = rw (ne-eqb p q d, le-ltb 4294967295 v h)
-
-  pub between-large : 4294967295 < v → between v p q ≡ number.Missing
-  unfolding between
-  between-large h = go (eqb p q)
-    where
-      go : (b : Bool) → cond (b || ltb 4294967295 v) number.Missing (number.Is v q) ≡ number.Missing
-      go true = refl
-      go false = rw (lt-ltb 4294967295 v h)
+  between-some d = rw (ne-eqb p q d)
 
 module _ {line : List ℕ} {p v i : ℕ} (c : Counted line p v i) where
-  stop : digits (drop i line) ≡ [] → numberAt line p ≡ between v p i
-  unfolding numberAt valueFrom
-  stop e = rw (c .value, c .ends, e, add-zero i)
+  stop : digits (drop i line) ≡ [] → longAt line p ≡ between v p i
+  unfolding longAt valueFrom
+  stop e = rw (c .value, c .ends, e, add-zero i, le-ltb 18446744073709551615 v (c .small))
 
-  pub number-past : length line ≤ i → numberAt line p ≡ between v p i
+  pub long-past : length line ≤ i → longAt line p ≡ between v p i
   unfolding digits
-  number-past h = stop (rw (drop-past i line h))
+  long-past h = stop (rw (drop-past i line h))
 
   module _ (d : ℕ) (e : DigitAt d (at line i)) (h : i < length line) where
-    pub number-other : 9 < d → numberAt line p ≡ between v p i
+    pub long-other : 9 < d → longAt line p ≡ between v p i
     unfolding digits
-    number-other k = stop (rw (drop-cons line i 0 h, digit-not d (at line i) e k))
+    long-other k = stop (rw (drop-cons line i 0 h, digit-not d (at line i) e k))
 
     digit-on : d ≤ 9 → digits (drop i line) ≡ at line i ∷ digits (drop (i + 1) line)
     unfolding digits
@@ -194,12 +187,29 @@ module _ {line : List ℕ} {p v i : ℕ} (c : Counted line p v i) where
     unfolding valueFrom
     value-on k = rw (c .value, digit-on k, digit-is d (at line i) e k .1)
 
-    pub number-large : d ≤ 9 → 4294967295 < 10 * v + d → numberAt line p ≡ number.Missing
-    unfolding numberAt
-    number-large k l =
+    pub long-large : d ≤ 9 → (18446744073709551615 - d) / 10 < v → longAt line p ≡ long.Missing
+    unfolding longAt
+    long-large k l =
         let g : 10 * v + d ≤ valueFrom 0 (digits (drop p line)) = rw (value-on k) (value-grows (digits (drop (i + 1) line)) (10 * v + d)) in
-        between-large _ _ _ (omega arith)
+        let m : 18446744073709551615 < 10 * v + d = omega arith in
+        rw (lt-ltb 18446744073709551615 (valueFrom 0 (digits (drop p line))) (omega arith))
 
-    pub counted-next : d ≤ 9 → 10 * v + d ≤ 4294967295 → Counted line p (10 * v + d) (i + 1)
+    pub counted-next : d ≤ 9 → v ≤ (18446744073709551615 - d) / 10 → Counted line p (10 * v + d) (i + 1)
     counted-next k l =
-        record { small = l; value = value-on k; ends = omega (arith, c .ends, ap length (digit-on k)) }
+        record { small = omega arith; value = value-on k; ends = omega (arith, c .ends, ap length (digit-on k)) }
+
+-- ---- numbers of 32 bits
+
+module _ (line : List ℕ) (p : ℕ) where
+  pub number-none : longAt line p ≡ long.Missing → numberAt line p ≡ number.Missing
+  unfolding numberAt
+  number-none e = rw e
+
+  module _ (v q : ℕ) (e : longAt line p ≡ long.Is v q) where
+    pub number-short : v ≤ 4294967295 → numberAt line p ≡ number.Is v q
+    unfolding numberAt
+    number-short h = rw (e, le-ltb 4294967295 v h)
+
+    pub number-large : 4294967295 < v → numberAt line p ≡ number.Missing
+    unfolding numberAt
+    number-large h = rw (e, lt-ltb 4294967295 v h)

@@ -5,6 +5,8 @@ use Prim.Native.Nat.{ℕ, suc, _+_, _*_, _-_}
 use lib.ListN.{length, drop}
 use lib.Dec.{leb, ltb, eqb}
 use Rattle.number.specs.Parts.{at}
+use Rattle.samples_text.specs.declared.Long.{Long}
+use Rattle.samples_text.specs.declared.Long.the-variants as long
 use Rattle.samples_text.specs.declared.Number.{Number}
 use Rattle.samples_text.specs.declared.Number.the-variants as number
 use Rattle.samples_text.specs.declared.Place.{Place}
@@ -69,18 +71,32 @@ unfoldable pub valueFrom : (v : ℕ) → List ℕ → ℕ
 valueFrom v [] = v
 valueFrom v (b ∷ bs) = valueFrom (10 * v + (b - 48)) bs
 
--- a number that stands between two places; missing where they are one, or it has more than 32 bits
-unfoldable pub between : (v start end : ℕ) → Number
-between v start end = cond (eqb start end || ltb 4294967295 v) number.Missing (number.Is v end)
+-- a number that stands between two places; missing where they are one
+unfoldable pub between : (v start end : ℕ) → Long
+between v start end = cond (eqb start end) long.Missing (long.Is v end)
 
--- the decimal number at place p, and the place after its last digit
+-- the decimal number at place p, and the place after its last digit; missing where it has more than 64 bits
+unfoldable pub longAt : (line : List ℕ) → (p : ℕ) → Long
+longAt line p =
+    cond (ltb 18446744073709551615 (valueFrom 0 (digits (drop p line)))) long.Missing
+    (between (valueFrom 0 (digits (drop p line))) p (p + length (digits (drop p line))))
+
+-- the same number; missing where it has more than 32 bits
+abbrev pub short : Long → Number
+short long.Missing = number.Missing
+short (long.Is v e) = cond (ltb 4294967295 v) number.Missing (number.Is v e)
+
 unfoldable pub numberAt : (line : List ℕ) → (p : ℕ) → Number
-numberAt line p = between (valueFrom 0 (digits (drop p line))) p (p + length (digits (drop p line)))
+numberAt line p = short (longAt line p)
 
 -- what follows where no number stands, and where one does, with the place after it
 abbrev pub byNumber : {A : Type 0} → Number → A → ((v end : ℕ) → A) → A
 byNumber number.Missing m f = m
 byNumber (number.Is v e) m f = f v e
+
+abbrev pub byLong : {A : Type 0} → Long → A → ((v end : ℕ) → A) → A
+byLong long.Missing m f = m
+byLong (long.Is v e) m f = f v e
 
 -- what follows where nothing was found, and at the place after what was
 abbrev pub byPlace : {A : Type 0} → Place → A → ((end : ℕ) → A) → A

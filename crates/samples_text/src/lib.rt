@@ -11,6 +11,12 @@ pub enum Number {
     Is(u32, usize),
 }
 
+pub enum Long {
+    Missing,
+    // The same with a number of 64 bits.
+    Is(u64, usize),
+}
+
 pub enum Place {
     Missing,
     At(usize),
@@ -126,22 +132,18 @@ fn digit(byte: u8) -> u64
     }
 }
 
-fn taken(value: u64, start: usize, end: usize) -> Number
+fn taken(value: u64, start: usize, end: usize) -> Long
     ensures { λ r. ⌜ r ≡ text.between value start end ⌝ }
 {
     if start == end {
-        return Number::Missing;
+        return Long::Missing;
     }
-    if value <= 4294967295 {
-        Number::Is(value as u32, end)
-    } else {
-        Number::Missing
-    }
+    Long::Is(value, end)
 }
 
-// A decimal number of 32 bits.
-pub fn number_at(line: &[u8], at: usize) -> Number
-    ensures { λ r. ⌜ r ≡ text.numberAt (now (line .entry)) at ⌝ }
+// A decimal number of 64 bits.
+pub fn long_at(line: &[u8], at: usize) -> Long
+    ensures { λ r. ⌜ r ≡ text.longAt (now (line .entry)) at ⌝ }
 {
     let mut value: u64 = 0;
     let mut i = at;
@@ -150,11 +152,25 @@ pub fn number_at(line: &[u8], at: usize) -> Number
         if 9 < d {
             return taken(value, at, i);
         }
-        value = 10 * value + d;
-        if 4294967295 < value {
-            return Number::Missing;
+        if (18446744073709551615 - d) / 10 < value {
+            return Long::Missing;
         }
+        value = 10 * value + d;
         i += 1;
     }
     taken(value, at, i)
+}
+
+// One of 32 bits.
+pub fn number_at(line: &[u8], at: usize) -> Number
+    ensures { λ r. ⌜ r ≡ text.numberAt (now (line .entry)) at ⌝ }
+{
+    let Long::Is(value, end) = long_at(line, at) else {
+        return Number::Missing;
+    };
+    if value <= 4294967295 {
+        Number::Is(value as u32, end)
+    } else {
+        Number::Missing
+    }
 }

@@ -1,8 +1,7 @@
 -- Each byte of an image is below 256. Assumes nothing.
 use mathlib.Core.List.{List}
-use Prim.Native.Nat.{ℕ, zero, suc, _<_}
 use Rattle.number.specs.Little.{Bytes}
-use Rattle.number.specs.Parts.{tab}
+use Rattle.number.proofs.LittleLaws.{bytes-tab}
 use Rattle.map.specs.declared.Map.{Map}
 use Rattle.map.specs.Map.{within}
 use Rattle.plain.specs.Block.{Block}
@@ -13,11 +12,6 @@ use Rattle.heap_layout.proofs.ByteLaws.{heap-byte-lt}
 use Rattle.stack_layout.specs.Image.{stackImage}
 use Rattle.stack_layout.proofs.ByteLaws.{primary-byte-lt, secondary-byte-lt}
 use Rattle.shadows.specs.Shadows.{image}
-
-bytes-tab : (f : ℕ → ℕ) → ((q : ℕ) → f q < 256) → (n i : ℕ) → Bytes (tab i n f)
-unfolding tab
-bytes-tab f h zero i = tt
-bytes-tab f h (suc n) i = (h i, bytes-tab f h n (suc i))
 
 pub image-bytes : (m : Map) (bs : List Block) → Bytes ((image m bs) .0) × Bytes ((image m bs) .1 .0) × Bytes ((image m bs) .1 .1)
 unfolding heapImage stackImage

@@ -7,6 +7,9 @@ use crate::plain::{List, PlainList};
 use crate::program::{encode, encode_map, LARGEST_HEAP, LARGEST_STACK};
 use crate::random::Random;
 
+/// The last kind of the plain form.
+const LAST_KIND: u16 = 10;
+
 /// An input file with at most so many records before its end.
 pub fn file(random: &mut Random, records: u64) -> Vec<u8> {
     let mut input = Vec::new();
@@ -22,15 +25,15 @@ pub fn file(random: &mut Random, records: u64) -> Vec<u8> {
             input.extend(call_record(random, &mut list));
         }
     }
-    spoil(random, &mut input);
+    spoil(random, &mut input, LAST_KIND);
     input
 }
 
-fn taken(map: Map) -> bool {
+pub(crate) fn taken(map: Map) -> bool {
     map.good() && map.heap_size <= LARGEST_HEAP && map.stack_size <= LARGEST_STACK
 }
 
-fn program_map(random: &mut Random) -> Map {
+pub(crate) fn program_map(random: &mut Random) -> Map {
     match random.below(8) {
         0 => edge_map(random),
         1 => {
@@ -64,25 +67,35 @@ fn call_record(random: &mut Random, list: &mut Option<PlainList>) -> Vec<u8> {
 }
 
 /// Half of all files end badly: cut, or with a record of no kind or length.
-fn spoil(random: &mut Random, input: &mut Vec<u8>) {
+pub(crate) fn spoil(random: &mut Random, input: &mut Vec<u8>, last_kind: u16) {
     match random.below(8) {
         0 => {
             let left = random.below(input.len() as u64 + 1);
             input.truncate(left as usize);
         }
         1 => {
-            let kind = random.pick(&[0, 11, 12, 255, 256, 258, 266, 513, u16::MAX]);
+            let kind = random.pick(&[
+                0,
+                last_kind + 1,
+                last_kind + 2,
+                255,
+                256,
+                258,
+                256 + last_kind,
+                513,
+                u16::MAX,
+            ]);
             input.extend(encode(kind, &[4096, 64]));
         }
         2 => {
-            let kind = random.between(1, 10) as u16;
+            let kind = random.between(1, u32::from(last_kind)) as u16;
             let fields = vec![4104; random.below(6) as usize];
             input.extend(encode(kind, &fields));
         }
         3 => {
             let length = random.pick(&[0, 1, 2, 3, 4, 5, 7, 9, 13, u16::MAX]);
             input.extend(length.to_le_bytes());
-            input.extend(random.pick(&[2u16, 3, 9, 10]).to_le_bytes());
+            input.extend(random.pick(&[2u16, 3, 9, last_kind]).to_le_bytes());
             input.extend([0; 16]);
         }
         _ => {}

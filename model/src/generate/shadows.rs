@@ -54,7 +54,7 @@ fn telling_byte(random: &mut Random) -> u8 {
 }
 
 /// One change: a bit, a byte, or a whole four-byte number.
-fn change(random: &mut Random, shadows: &mut Shadows) {
+pub(crate) fn change(random: &mut Random, shadows: &mut Shadows) {
     let shadow = match random.below(3) {
         0 => &mut shadows.heap,
         1 => &mut shadows.primary,

@@ -8,6 +8,9 @@ use model::call::{Answer, Call};
 use model::image::Shadows;
 use model::map::Map;
 use model::notation::{examples, Example, OneCall, EXAMPLE_MAP};
+use model::origins;
+use model::origins::cells::{Cells, State};
+use model::origins::program::Record;
 
 /// A file of tests/data.
 pub fn data(name: &str) -> Vec<u8> {
@@ -62,4 +65,43 @@ pub fn on_bytes(line: &str, example: &OneCall) {
         let bytes = &shadow[stated.position..][..stated.bytes.len()];
         assert_eq!(bytes, stated.bytes, "{line}: bytes afterwards");
     }
+}
+
+/// The calls program of the form with origins, on the byte-level model instead of the list.
+pub fn origins_on_bytes(mut input: &[u8]) -> Vec<u8> {
+    let mut map = Map::default();
+    let mut state = State::cleared(map);
+    let mut output = String::new();
+    while !input.is_empty() {
+        let Some((record, rest)) = origins::program::decode(input) else {
+            output += "9\n";
+            break;
+        };
+        input = rest;
+        match record {
+            Record::Map(new) => {
+                let number = match (new.good(), new.heap_size, new.stack_size) {
+                    (false, ..) => 1,
+                    (true, 0..=32_768, 0..=16_384) => 0,
+                    _ => 10,
+                };
+                if number == 0 {
+                    map = new;
+                    state.shadows = Shadows::cleared(map);
+                    state.cells = Cells::cleared(map);
+                }
+                output += &format!("1 {number}\n");
+            }
+            Record::Call(kind, call) => {
+                let answer = origins::bytes::call(map, &mut state, call);
+                let fields = match answer.number {
+                    0 => &answer.fields[..call.answer_fields()],
+                    _ => &[],
+                };
+                let fields: String = fields.iter().map(|field| format!(" {field}")).collect();
+                output += &format!("{kind} {}{fields}\n", answer.number);
+            }
+        }
+    }
+    output.into_bytes()
 }

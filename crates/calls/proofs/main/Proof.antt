@@ -1,7 +1,7 @@
 -- `calls::main` is safe and ends. Assumes nothing.
 use Prim.Native.Nat.{_-_, _≤_}
 use borrow.Author.Needs.{needs}
-use Rattle.calls_turn.specs.Turn.{Goes}
+use Rattle.calls_file.specs.Turn.{Goes}
 use Rattle.calls.proofs.main.Statement.{statement}
 use Rattle.calls.proofs.main.Tie as tie
 

@@ -6,7 +6,7 @@ use Rattle.calls_format.specs.Decoded.{requested}
 use Rattle.calls_format.specs.Running.{State}
 use Rattle.calls_format.specs.Kept.{kept}
 use Rattle.calls_plan.specs.Plan.{planOf}
-use Rattle.calls_plan.proofs.PlanLaws.{served-no, served-step}
+use Rattle.calls_plan.proofs.PlainLaws.{served-no, served-step}
 use borrow.Author.Needs.{needs}
 use Rattle.calls_serve.proofs.serve_on.Statement.{statement}
 use Rattle.calls_serve.proofs.serve_on.Tie as tie

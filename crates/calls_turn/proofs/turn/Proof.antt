@@ -1,12 +1,12 @@
 -- `calls_turn::turn` meets its contract. Assumes nothing.
 use mathlib.Core.Path.{_≡_, refl, sym, ap, _∙_}
-use mathlib.Core.Option.{none}
+use mathlib.Core.Option.{some}
 use native.Mathlib.Omega.{arith}
-use Rattle.calls_format.specs.Decoded.{decodedOf}
-use Rattle.calls_format.proofs.LineLaws.{line-as}
-use Rattle.calls_window.proofs.WindowLaws.{content-past}
-use Rattle.calls_output.proofs.PendingLaws.{text-as, pending-as}
-use Rattle.calls_turn.proofs.TurnLaws.{does-as, record-fits}
+use Rattle.calls_format.specs.Records as records
+use Rattle.calls_format.specs.Decoded.{requested, decodedOf}
+use Rattle.calls_format.proofs.ProgramLaws.{plain-whole}
+use Rattle.calls_window.specs.Window.{content}
+use Rattle.calls_file.proofs.TurnLaws.{record-fits, turned-end, turned-none, turned-some}
 use borrow.Author.Needs.{needs}
 use Rattle.calls_turn.proofs.turn.Statement.{statement}
 use Rattle.calls_turn.proofs.turn.Tie as tie
@@ -20,19 +20,25 @@ ended-requires c κs = search needs
 returns : tie.Need-returns
 returns c =
     let a = c .before .before .before .before .before .before .before in
-    let w = c .before .before .before .refill in
     let e = c .ended .ensures in
-    record {
-      goes = rw (e .1, e .2) (w .ensures .held, a .pre .1);
-      window = w .result;
-      refilled = w .ensures;
-      more = ap (λ x. x .more) (e .1);
-      ends = λ _. (e .3, rw (e .0), e .2, refl);
-      does = λ n. absurd (n (c .before .if1 .taken));
-    }
+    turned-end _ _ _ (c .before .before .before .refill .ensures) (c .before .if1 .taken) (a .pre .1) (rw (e .0)) refl (e .1) (e .2) (e .3)
 
-first-requires : tie.Need-first-requires
-first-requires c κs = search needs
+unread-requires : tie.Need-unread-requires
+unread-requires c κs = search needs
+
+decode-requires : tie.Need-decode-requires
+decode-requires c κs = search needs
+
+-- the window was refilled before the record is decoded
+abbrev refilled : tie.After-decode → tie.After-refill
+refilled c = c .before .before .before .before .before
+
+abbrev entry : tie.After-decode → tie.Start
+entry c = refilled c .before .before .before .before
+
+-- what is decoded is the first record in the window
+decoded : (c : tie.After-decode) → decodedOf (c .decode .result) ≡ records.decode (content (refilled c .refill .result) (refilled c .refill .last .0))
+decoded c = c .decode .ensures ∙ ap records.decode (c .before .unread .ensures)
 
 enum-known-request : tie.Need-enum-known-request
 enum-known-request c = search needs
@@ -46,56 +52,49 @@ undecodable-requires c κs = search needs
 ended-requires-2 : tie.Need-ended-requires-2
 ended-requires-2 c κs = search needs
 
-none-decoded : (c : tie.After-undecodable) → decodedOf (c .before .before .before .before .first .result) ≡ none
-none-decoded c = ap decodedOf (c .before .before .enum-told .given .1)
-
 returns-2 : tie.Need-returns-2
 returns-2 c =
-    let a = c .before .before .before .before .before .before .before .before .before .before .before .before .before in
-    let w = c .before .before .before .before .before .before .before .before .before .refill in
-    let f = c .before .before .before .before .before .first in
-    let u = c .before .undecodable .ensures in
+    let d = c .before .before .before .before .before in
     let e = c .ended2 .ensures in
-    record {
-      goes = rw (e .1, e .2) (w .ensures .held, u .lies);
-      window = w .result;
-      refilled = w .ensures;
-      more = ap (λ x. x .more) (e .1);
-      ends = λ z. absurd (c .before .before .before .before .before .before .before .if1 .left z);
-      does = λ _. does-as _ _ _ none (sym (f .ensures) ∙ none-decoded (c .before)) (e .3, rw (e .0), pending-as (c .ended2 .result .pending) (e .2) u);
-    }
+    turned-none _ _ _ (refilled d .refill .ensures) _ (d .before .before .before .if1 .left)
+    (sym (decoded d) ∙ ap decodedOf (c .before .before .before .enum-told .given .1))
+    (c .before .undecodable .ensures) (rw (e .0)) (e .1) (e .2) (e .3)
 
 serve-requires : tie.Need-serve-requires
 serve-requires c κs = search needs
 
+kind-of-requires : tie.Need-kind-of-requires
+kind-of-requires c κs = search needs
+
+length-of-requires : tie.Need-length-of-requires
+length-of-requires c κs = search needs
+
+-- the request is that of the first record
+request : (c : tie.After-known-told)
+    → records.decode (content (refilled (c .before .before .before) .refill .result) (refilled (c .before .before .before) .refill .last .0))
+    ≡ some (requested (c .before .request .given .0 .0))
+request c = sym (decoded (c .before .before .before)) ∙ ap decodedOf (c .before .request .given .1)
+
+-- where the line is told
+abbrev known : tie.After-length-of → tie.After-known-told
+known c = c .before .before .before .before .before .before
+
 told-requires : tie.Need-told-requires
 told-requires c κs =
-    let w = c .before .before .before .before .before .before .before .before .before .before .before .before .refill in
-    let f = c .before .before .before .before .before .before .before .before .first in
-    (w .ensures .held, c .before .before .before .before .before .before .before .before .before .before .before .before .before .before .before .before .pre .1, record-fits (w .result) (w .last .0) (f .result) _ (c .before .before .before .before .before .before .request .given .1) (f .ensures))
+    let k = known (c .before) in
+    let d = k .before .before .before in (
+      refilled d .refill .ensures .held,
+      entry d .pre .1,
+      omega (arith, record-fits plain-whole (refilled d .refill .result) (refilled d .refill .last .0) (requested (k .before .request .given .0 .0)) (request k), c .before .length-of .ensures),
+    )
 
 returns-3 : tie.Need-returns-3
 returns-3 c =
-    let w = c .before .before .before .before .before .before .before .before .before .before .before .before .before .refill in
-    let f = c .before .before .before .before .before .before .before .before .before .first in
-    let q = c .before .before .before .before .before .before .before .request .given in
-    let v = c .before .before .serve in
+    let l = c .before .before in
+    let d = known l .before .before .before in
     let t = c .told .ensures in
-    let x = record-fits (w .result) (w .last .0) (f .result) _ (q .1) (f .ensures) in
-    record {
-      goes = ((omega (arith, t .past .from, t .past .to, w .ensures .held .0, x), omega (arith, t .past .to, w .ensures .held .1)), t .adds .lies);
-      window = w .result;
-      refilled = w .ensures;
-      more = t .past .more;
-      ends = λ z. absurd (c .before .before .before .before .before .before .before .before .before .before .before .if1 .left z);
-      does =
-          λ _. does-as _ _ _ _ (sym (f .ensures) ∙ ap decodedOf (q .1)) (
-            t .goes,
-            rw (t .under) (ap (λ r. r .0) (v .ensures)),
-            content-past (w .result) (c .told .result .window) _ _ (w .last .0) (w .ensures .held .0, omega arith) x (t .past .from) (t .past .to) refl,
-            text-as _ _ (line-as refl (ap (λ r. r .1) (v .ensures))) (t .adds),
-          );
-    }
+    turned-some _ _ _ (refilled d .refill .ensures) plain-whole _ _ _ _ _ (d .before .before .before .if1 .left) (request (known l))
+    (l .before .kind-of .ensures) (l .length-of .ensures) t (rw (t .under) (l .before .before .serve .ensures))
 
 pub turn-spec : {M : Type 1} → statement M
 turn-spec =
@@ -104,12 +103,15 @@ turn-spec =
     refill-requires
     ended-requires
     returns
-    first-requires
+    unread-requires
+    decode-requires
     enum-known-request
     enum-told
     undecodable-requires
     ended-requires-2
     returns-2
     serve-requires
+    kind-of-requires
+    length-of-requires
     told-requires
     returns-3)

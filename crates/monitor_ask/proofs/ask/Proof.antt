@@ -1,31 +1,16 @@
 -- `monitor_ask::ask` meets its contract. Assumes nothing.
 use mathlib.Core.Path.{_≡_, sym, _∙_}
 use mathlib.Core.Bool.{true}
-use mathlib.Core.List.{[], _∷_}
-use mathlib.Core.Logic.{⊎-elim}
-use Prim.Native.Nat.{ℕ}
-use native.Mathlib.Omega.{arith}
-use types.Run.{OneOf}
-use denote.Enum.Declared.{tagOf}
 use denote.Ref.{now}
 use Rattle.map.specs.Map.{goodMap}
 use Rattle.plain.specs.Call.{ask}
 use Rattle.shadows.specs.Shadows.{Shadows, lengthsFit}
-use Rattle.monitor_base.specs.declared.Located.{Located}
-use Rattle.monitor_base.specs.declared.Located.the-variants.{Heap, Stack, Outside}
-use Rattle.monitor_base.proofs.Located.{the-type}
 use Rattle.monitor_base.proofs.CallLaws.{early-good}
 use Rattle.monitor_read_laws.proofs.AnswerLaws.{answers, refuses}
-use Rattle.monitor_read_laws.proofs.AskingLaws.{ask-at, ask-out, there, base-at}
+use Rattle.monitor_read_laws.proofs.AskingLaws.{in-area, ask-at, ask-out, there, base-at}
 use borrow.Author.Needs.{needs}
 use Rattle.monitor_ask.proofs.ask.Statement.{statement}
 use Rattle.monitor_ask.proofs.ask.Tie as tie
-
--- what the place after the test for neither area knows: the tag of another case
-in-area : (l : Located) → OneOf (0 ∷ (1 ∷ [])) (tagOf the-type l) → l ≡ Outside → ⊥
-in-area (Heap p) o e = let z : _≡_ {A = ℕ} 0 1 = cc in omega arith
-in-area (Stack p) o e = let z : _≡_ {A = ℕ} 0 1 = cc in omega arith
-in-area Outside o e = ⊎-elim (λ x. omega arith) (λ x. omega arith) o
 
 -- the function's entry
 abbrev entry : tie.Else1 → tie.Start

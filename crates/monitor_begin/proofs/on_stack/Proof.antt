@@ -14,55 +14,24 @@ add-if1 c = search needs
 returns : tie.Need-returns
 returns c =
     let e = c .before .before .before .before in
-    sym (stack-4 (now (e .args .primary), now (e .args .secondary)) (e .args .written) (e .args .base .0) (e .args .len) (e .pre .0 .0) (omega (arith, c .if1 .taken, e .pre .0 .1)))
+    stack-4 (now (e .args .primary), now (e .args .secondary)) (e .args .base .0) (e .args .len) (e .pre .0 .0) (omega (arith, c .if1 .taken, e .pre .0 .1))
 
 vacant-requires : tie.Need-vacant-requires
 vacant-requires c κs = search needs
 
-same-length : tie.Need-same-length
-same-length c = search needs
-
-same-length-2 : tie.Need-same-length-2
-same-length-2 c = search needs
-
 returns-2 : tie.Need-returns-2
 returns-2 c =
-    let t = c .before .before .before .before in
+    let t = c .before .before in
     let e = t .before .before .before .before in
-    sym (stack-6 (now (e .args .primary), now (e .args .secondary)) (e .args .written) (e .args .base .0) (e .args .len) (e .pre .0 .0) (omega (arith, t .if1 .left, e .pre .0 .1))
-    (sym (c .before .vacant .ensures) ∙ not-true (c .before .vacant .result) (c .if2 .taken)))
-
-stamp-requires : tie.Need-stamp-requires
-stamp-requires c κs =
-    let v = c .before .before in
-    let e = v .before .before .before .before .before .before .before .before in
-    (omega arith, e .pre .1 .1, e .pre .1 .2, e .pre .0 .0, sym (v .before .vacant .ensures) ∙ not-false (v .before .vacant .result) (v .if2 .left))
-
-same-length-3 : tie.Need-same-length-3
-same-length-3 c = search needs
-
-same-length-4 : tie.Need-same-length-4
-same-length-4 c = search needs
+    stack-6 (now (e .args .primary), now (e .args .secondary)) (e .args .base .0) (e .args .len) (e .pre .0 .0) (omega (arith, t .if1 .left, e .pre .0 .1))
+    (sym (c .before .vacant .ensures) ∙ not-true (c .before .vacant .result) (c .if2 .taken))
 
 returns-3 : tie.Need-returns-3
 returns-3 c =
-    let v = c .before .before .before .before .before .before .before in
-    let t = v .before .before .before .before in
+    let t = c .before .before in
     let e = t .before .before .before .before in
-    sym (stack-0 (now (e .args .primary), now (e .args .secondary)) (e .args .written) (e .args .base .0) (e .args .len) (e .pre .0 .0) (omega (arith, t .if1 .left, e .pre .0 .1))
-    (sym (v .before .vacant .ensures) ∙ not-false (v .before .vacant .result) (v .if2 .left)) _ (c .before .before .before .before .stamp .ensures))
+    stack-0 (now (e .args .primary), now (e .args .secondary)) (e .args .base .0) (e .args .len) (e .pre .0 .0) (omega (arith, t .if1 .left, e .pre .0 .1))
+    (sym (c .before .vacant .ensures) ∙ not-false (c .before .vacant .result) (c .if2 .left))
 
 pub on-stack-spec : {M : Type 1} → statement M
-on-stack-spec =
-    tie.close
-    (tie.spec
-    add-if1
-    returns
-    vacant-requires
-    same-length
-    same-length-2
-    returns-2
-    stamp-requires
-    same-length-3
-    same-length-4
-    returns-3)
+on-stack-spec = tie.close (tie.spec add-if1 returns vacant-requires returns-2 returns-3)

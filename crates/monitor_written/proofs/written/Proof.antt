@@ -1,128 +1,29 @@
--- `monitor_written::written` meets its contract: one arm for each area. Assumes nothing.
-use mathlib.Core.Path.{_≡_, sym, _∙_}
-use mathlib.Core.Bool.{true}
-use native.Mathlib.Omega.{arith}
+-- `monitor_written::written` meets its contract: the check, then the effect. Assumes nothing.
 use denote.Ref.{now}
-use Rattle.map.specs.Map.{goodMap}
-use Rattle.plain.specs.Call.{Call, written, refusal}
-use Rattle.shadows.specs.Shadows.{Shadows, lengthsFit}
-use Rattle.stack_layout.specs.Ops.{StackShadows}
-use Rattle.monitor_base.specs.Locating.{Lies}
-use Rattle.monitor_base.specs.declared.Located.{Located}
-use Rattle.monitor_base.specs.declared.Located.the-variants.{Heap, Stack, Outside}
-use Rattle.monitor_write_laws.specs.AreaCalls.{onHeap, onStack}
-use Rattle.monitor_base.proofs.CallLaws.{early-good}
-use Rattle.monitor_write_laws.proofs.OutcomeLaws.{refused, stepped, stepped-heap, stepped-stack}
-use Rattle.monitor_write_laws.proofs.StepLaws.{written-3, written-4}
-use Rattle.monitor_write_laws.proofs.AtLaws.{written-at}
-use Rattle.monitor_base.proofs.LocatingLaws.{heap-there, stack-there, out-inside}
-use Rattle.monitor_write_laws.proofs.AreaLaws.{heap-at, stack-at}
+use Rattle.shadows.specs.Shadows.{Shadows}
+use Rattle.monitor_write_laws.proofs.WrittenChecks.{written-call}
 use borrow.Author.Needs.{needs}
 use Rattle.monitor_written.proofs.written.Statement.{statement}
 use Rattle.monitor_written.proofs.written.Tie as tie
 
--- the function's entry, from where map and lengths are checked
-abbrev entry : tie.After-checked → tie.Start
-entry c = c .before .before .before .before
+-- the function's entry, from where the check is done
+abbrev entry : tie.After-check → tie.Start
+entry c = c .before .before .before .before .before .before .before
 
 abbrev shadows : tie.Start → Shadows
 shadows c = (now (c .args .heap), (now (c .args .primary), now (c .args .secondary)))
 
-abbrev asked : tie.Start → Call
-asked c = written (c .args .a .0) (c .args .n)
+check-requires : tie.Need-check-requires
+check-requires c κs = search needs
 
-good-fit : (c : tie.Else1) → (goodMap (entry (c .before) .args .map) ≡ true) × (lengthsFit (entry (c .before) .args .map) (shadows (entry (c .before))) ≡ true)
-unfolding lengthsFit
-good-fit c = early-good (entry (c .before) .args .map) (shadows (entry (c .before))) (sym (c .if1 .left) ∙ c .before .checked .ensures)
-
--- the address lies in the heap, in the stack, in neither
-abbrev lies : tie.After-locate → Located → Type 0
-lies c = let e = entry (c .before .before .before) in Lies (e .args .map) (e .args .a .0)
-
-in-heap : (c : tie.After-p) → lies (c .before .before) (Heap (c .p .given .0 .0))
-in-heap c = rw (c .p .given .1) at (c .before .before .locate .ensures)
-
-in-stack : (c : tie.After-p2) → lies (c .before .before) (Stack (c .p2 .given .0 .0))
-in-stack c = rw (c .p2 .given .1) at (c .before .before .locate .ensures)
-
-outside : (c : tie.After-enum-told) → lies (c .before .before) Outside
-outside c = rw (c .enum-told .given .1) at (c .before .before .locate .ensures)
-
-checked-requires : tie.Need-checked-requires
-checked-requires c κs = search needs
+mark-requires : tie.Need-mark-requires
+mark-requires c κs = c .before .before .check .ensures .3
 
 refusal-requires : tie.Need-refusal-requires
 refusal-requires c κs = search needs
 
-returns : tie.Need-returns
-unfolding lengthsFit
-returns c =
-    let e = entry (c .before .before) in
-    refused (e .args .map) (asked e) (shadows e) _ (c .before .before .checked .ensures) _ (c .before .if1 .taken) (c .refusal .ensures)
-
-refusal-requires-2 : tie.Need-refusal-requires-2
-refusal-requires-2 c κs = search needs
-
-returns-2 : tie.Need-returns-2
-unfolding lengthsFit
-returns-2 c =
-    let k = c .before .before in
-    let e = entry (k .before) in
-    stepped (e .args .map) (asked e) (shadows e) (k .before .checked .result) (k .before .checked .ensures) _ (k .if1 .left) (shadows e) (refusal 3) (c .refusal2 .ensures)
-    (λ g l. written-3 _ _ (shadows e) _ _ (c .before .if2 .taken))
-
-locate-requires : tie.Need-locate-requires
-locate-requires c κs = search needs
-
-enum-known-p : tie.Need-enum-known-p
-enum-known-p c = search needs
-
-on-heap-requires : tie.Need-on-heap-requires
-on-heap-requires c κs =
-    let b = c .before .before .before in
-    let k = b .before .before .before in
-    let e = entry (k .before) in
-    let g = good-fit k in
-    let h = in-heap (c .before .before) in
-    (omega (arith, b .before .before .if2 .left), heap-there (e .args .map) (shadows e) (g .0) (g .1) (e .args .a .0) _ (h .0) (h .1))
-
-refusal-requires-3 : tie.Need-refusal-requires-3
-refusal-requires-3 c κs = search needs
-
-enum-known-p-2 : tie.Need-enum-known-p-2
-enum-known-p-2 c = search needs
-
-on-stack-requires : tie.Need-on-stack-requires
-on-stack-requires c κs =
-    let b = c .before .before .before .before in
-    let k = b .before .before .before in
-    let e = entry (k .before) in
-    let g = good-fit k in
-    let h = in-stack (c .before .before .before) in
-    (omega (arith, b .before .before .if2 .left), stack-there (e .args .map) (shadows e) (g .0) (g .1) (e .args .a .0) _ (h .0) (h .1))
-
-refusal-requires-4 : tie.Need-refusal-requires-4
-refusal-requires-4 c κs = search needs
-
-enum-told : tie.Need-enum-told
-enum-told c = search needs
-
-refusal-requires-5 : tie.Need-refusal-requires-5
-refusal-requires-5 c κs = search needs
-
 same-length : tie.Need-same-length
 same-length c = search needs
-
-returns-3 : tie.Need-returns-3
-unfolding lengthsFit
-returns-3 c =
-    let p = c .before .before .before .before .before .before in
-    let k = p .before .before .before .before in
-    let e = entry (k .before) in
-    let h = in-heap p in
-    stepped-heap (e .args .map) (asked e) (shadows e) (k .before .checked .result) (k .before .checked .ensures) _ (k .if1 .left) _ _ (onHeap (written (p .p .given .0 .0 .0) (e .args .n)) (shadows e .0)) (c .refusal3 .ensures)
-    (c .before .before .before .on-heap .ensures)
-    (λ g l. written-at _ _ (shadows e) _ _ _ _ _ _ (heap-at (e .args .map) (shadows e) g l (e .args .a .0) _ (h .0) (h .1)) (e .args .n))
 
 same-length-2 : tie.Need-same-length-2
 same-length-2 c = search needs
@@ -130,48 +31,16 @@ same-length-2 c = search needs
 same-length-3 : tie.Need-same-length-3
 same-length-3 c = search needs
 
-returns-4 : tie.Need-returns-4
-unfolding lengthsFit
-returns-4 c =
-    let x = c .before .before .before in
-    let p = x .before .before .before .before in
-    let k = p .before .before .before .before in
-    let e = entry (k .before) in
-    let h = in-stack p in
-    let t : StackShadows = (x .on-stack .last .0, now (e .args .secondary)) in
-    stepped-stack (e .args .map) (asked e) (shadows e) (k .before .checked .result) (k .before .checked .ensures) _ (k .if1 .left) t _ (onStack (written (p .p2 .given .0 .0 .0) (e .args .n)) (shadows e .1)) (c .refusal4 .ensures)
-    (x .on-stack .ensures)
-    (λ g l. written-at _ _ (shadows e) _ _ _ _ _ _ (stack-at (e .args .map) (shadows e) g l (e .args .a .0) _ (h .0) (h .1)) (e .args .n))
-
-returns-5 : tie.Need-returns-5
-unfolding lengthsFit
-returns-5 c =
-    let k = c .before .before .before .before .before in
-    let e = entry (k .before) in
-    stepped (e .args .map) (asked e) (shadows e) (k .before .checked .result) (k .before .checked .ensures) _ (k .if1 .left) (shadows e) (refusal 4) (c .refusal5 .ensures)
-    (λ g l. written-4 _ _ (shadows e) _ _ (c .before .before .before .before .if2 .left) (out-inside (e .args .map) _ (outside (c .before))))
+returns : tie.Need-returns
+returns c =
+    let x = c .before .before .before .before .before in
+    let k = x .before .before .before in
+    let e = entry k in
+    let f = k .check .ensures in
+    rw (c .refusal .ensures)
+    (written-call (e .args .map) (shadows e) (e .args .a .0) (e .args .n) _ (f .0) (k .check .result .place) (f .1) (f .2) _ (x .mark .ensures (now (e .args .secondary))))
 
 pub written-spec : {M : Type 1} → statement M
 written-spec =
     tie.close
-    (tie.spec
-    checked-requires
-    refusal-requires
-    returns
-    refusal-requires-2
-    returns-2
-    locate-requires
-    enum-known-p
-    on-heap-requires
-    refusal-requires-3
-    enum-known-p-2
-    on-stack-requires
-    refusal-requires-4
-    enum-told
-    refusal-requires-5
-    same-length
-    returns-3
-    same-length-2
-    same-length-3
-    returns-4
-    returns-5)
+    (tie.spec check-requires mark-requires refusal-requires same-length same-length-2 same-length-3 returns)

@@ -10,8 +10,11 @@ changing-requires c κs = search needs
 reading-requires : tie.Need-reading-requires
 reading-requires c κs = search needs
 
+pointing-requires : tie.Need-pointing-requires
+pointing-requires c κs = search needs
+
 returns : tie.Need-returns
-returns c = called _ _ _ _ (c .before .changing .ensures) (c .reading .ensures)
+returns c = called _ _ _ _ _ (c .before .before .changing .ensures) (c .before .reading .ensures) (c .pointing .ensures)
 
 pub name-at-spec : {M : Type 1} → statement M
-name-at-spec = tie.close (tie.spec changing-requires reading-requires returns)
+name-at-spec = tie.close (tie.spec changing-requires reading-requires pointing-requires returns)

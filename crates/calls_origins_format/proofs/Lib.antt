@@ -1,0 +1,4 @@
+pub mod RecordLaws
+pub mod RunningLaws
+pub mod KeptLaws
+pub mod Samples

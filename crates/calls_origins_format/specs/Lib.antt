@@ -1,0 +1,6 @@
+pub mod Records
+pub mod Decoded
+pub mod Running
+pub mod Kept
+pub mod Program
+pub mod Samples

@@ -1,0 +1,25 @@
+-- `cells_store::store_referent` meets its contract. Assumes nothing.
+use Rattle.cells_layout.specs.Area.{setHalf}
+use borrow.Author.Needs.{needs}
+use Rattle.cells_store.proofs.store_referent.Statement.{statement}
+use Rattle.cells_store.proofs.store_referent.Tie as tie
+
+mul-put-at : tie.Need-mul-put-at
+mul-put-at c = search needs
+
+add-put-at : tie.Need-add-put-at
+add-put-at c = search needs
+
+put-at-requires : tie.Need-put-at-requires
+put-at-requires c κs = search needs
+
+same-length : tie.Need-same-length
+same-length c = search needs
+
+returns : tie.Need-returns
+unfolding setHalf
+returns c = c .before .before .put-at .ensures
+
+pub store-referent-spec : {M : Type 1} → statement M
+store-referent-spec =
+    tie.close (tie.spec mul-put-at add-put-at put-at-requires same-length returns)

@@ -1,0 +1,47 @@
+-- Demand 1 for the form with origins, proved: see specs/Demand1.antt for what each says. Assumes nothing.
+use mathlib.Core.Path.{_≡_, refl, sym, _∙_}
+use mathlib.Core.Logic.{_≢_}
+use Prim.Native.Nat.{ℕ, zero, suc}
+use native.Mathlib.Omega.{arith}
+use Rattle.map.specs.declared.Map.{Map}
+use Rattle.plain.specs.Areas.{mapRules}
+use Rattle.plain.specs.Call.{Answer, number, refusal, firstOf, unless}
+use Rattle.shadows.specs.Shadows.{shadowOps}
+use Rattle.demands.proofs.RowLaws.{Ascending, first-none, none-first, lowest, first-holds}
+use Rattle.origins_list.specs.Call.{Call}
+use Rattle.origins_list.specs.StateCalls.{stateAfter, stateAnswer}
+use Rattle.cells_layout.specs.Cells.{cellOps}
+use Rattle.origins_base.specs.Calls.{State, refusals, call}
+use Rattle.demands_origins.specs.Numbers.{rows}
+use Rattle.demands_origins.specs.Demand1.{RefusedAltersNothing, ByTheTable, AcceptedExactly, LowestWins, ItsRowHolds}
+use Rattle.demands_origins.proofs.Numbers.{answered-0, by-rows}
+
+pub refused-alters-nothing : RefusedAltersNothing
+unfolding call
+refused-alters-nothing m c x h = go (firstOf (refusals m c x)) h
+  where
+    does : ℕ → State × Answer
+    does k = unless k x (stateAfter (mapRules m) (shadowOps m) (cellOps m) c x, stateAnswer (mapRules m) (shadowOps m) (cellOps m) c x)
+
+    go : (k : ℕ) → number ((does k) .1) ≢ 0 → does k ≡ (x, refusal (number ((does k) .1)))
+    go zero h = absurd (h (answered-0 m c x))
+    go (suc k) h = refl
+
+pub by-the-table : ByTheTable
+by-the-table = by-rows
+
+ascending : (m : Map) (c : Call) (x : State) → Ascending 0 (rows m c x)
+ascending m c x =
+    (omega arith, (omega arith, (omega arith, (omega arith, (omega arith, (omega arith, (omega arith, (omega arith, (omega arith, (omega arith, tt))))))))))
+
+pub accepted-exactly : AcceptedExactly
+accepted-exactly m c x = (
+  λ h. by-rows m c x ∙ first-none (rows m c x) h,
+  λ e. none-first (rows m c x) 0 (ascending m c x) (sym (by-rows m c x) ∙ e),
+)
+
+pub lowest-wins : LowestWins
+lowest-wins m c x = rw (by-rows m c x) (lowest (rows m c x) 0 (ascending m c x))
+
+pub its-row-holds : ItsRowHolds
+its-row-holds m c x n = rw (by-rows m c x) (first-holds (rows m c x) (rw (by-rows m c x) at n))

@@ -1,0 +1,8 @@
+pub mod Alters
+pub mod CellLaws
+pub mod Demand1
+pub mod Demand3
+pub mod Judged
+pub mod Numbers
+pub mod PlainKinds
+pub mod Samples

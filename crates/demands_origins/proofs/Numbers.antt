@@ -1,0 +1,96 @@
+-- The number of a call of the form with origins, by the conditions that define it and by the rows of the table (specs/Numbers.antt). Of a plain
+-- kind the rows from 3 on are those of the plain form, but for a recording's. Assumes nothing.
+use mathlib.Core.Path.{_≡_, refl, _∙_}
+use mathlib.Core.Bool.{Bool, true, false, cond, not, _&&_, _||_}
+use Prim.Native.Nat.{ℕ, zero, suc, _*_, _%_}
+use lib.ListN.{length}
+use lib.Dec.{eqb}
+use Rattle.map.specs.declared.Map.{Map}
+use Rattle.plain.specs.Areas.{mapRules}
+use Rattle.plain.specs.Reading.{Reading, nothing, block, damaged}
+use Rattle.plain.specs.Call.{clear, begin, free, written, ask, valid, initialised, next, audit, number, firstOf}
+use Rattle.plain.specs.ShadowCalls.{inOne}
+use Rattle.plain.proofs.RunLaws.{unless-number}
+use Rattle.shadows.specs.Shadows.{lengthsFit, shadowOps}
+use Rattle.demands.specs.Addresses.{readingAt}
+use Rattle.demands.proofs.Numbers as base
+use Rattle.plain.proofs.AnswerLaws.{accepted-0}
+use Rattle.demands.proofs.Numbers.{outside-words, misplaced-words, unaligned-words, taken-words, reading-words}
+use Rattle.demands.proofs.RowLaws.{pastTwo}
+use Rattle.origins_list.specs.Call.{Call, plain, point, copy, live}
+use Rattle.origins_list.specs.StateCalls.{byState, isPointer, stateAnswer}
+use Rattle.cells_layout.specs.Cells.{cellsFit, cellOps}
+use Rattle.origins_base.specs.Calls.{State, refusals, call}
+use Rattle.demands_origins.specs.Numbers.{offCell, fourInOne, badCell, rows}
+use Rattle.demands_origins.specs.Demand1.{numberOf}
+
+-- ---- the first condition that holds
+
+-- what a call answers where it is not refused has number 0
+pub answered-0 : (m : Map) (c : Call) (x : State) → number (stateAnswer (mapRules m) (shadowOps m) (cellOps m) c x) ≡ 0
+answered-0 m (plain c) x = accepted-0 (mapRules m) (shadowOps m) c (x .shadows)
+answered-0 m (point c a) x = refl
+answered-0 m (copy t f) x = refl
+answered-0 m (live c a) x = refl
+
+pub number-first : (m : Map) (c : Call) (x : State) → numberOf m c x ≡ firstOf (refusals m c x)
+unfolding call
+number-first m c x = unless-number (firstOf (refusals m c x)) x _ (answered-0 m c x)
+
+-- ---- the conditions, in the table's words
+
+four-words : (r : Reading) → inOne 4 r ≡ fourInOne r
+four-words nothing = refl
+four-words (block b l o w) = refl
+four-words damaged = refl
+
+not-and : (p q : Bool) → not (p && q) ≡ (not p || not q)
+not-and true q = refl
+not-and false q = refl
+
+pub pointer-words : (m : Map) (x : State) (c : ℕ) → not (isPointer (mapRules m) (shadowOps m) (cellOps m) x c) ≡ badCell m x c
+pointer-words m x c =
+    rw (reading-words m (x .shadows) c, four-words (readingAt m (x .shadows) c)) (not-and (eqb (c % 4) 0) (fourInOne (readingAt m (x .shadows) c)))
+
+-- ---- the rows
+
+-- one number for two conditions
+pub either-of : (n : ℕ) (p q : Bool) (k : ℕ) → cond p n (cond q n k) ≡ cond (p || q) n k
+either-of n true q k = refl
+either-of n false q k = refl
+
+pub later-rows : (m : Map) (c : Call) (x : State) → firstOf (byState (mapRules m) (shadowOps m) (cellOps m) c x) ≡ firstOf (pastTwo (rows m c x))
+later-rows m (plain clear) x = refl
+later-rows m (plain (begin w b l)) x =
+    rw (misplaced-words m b l, unaligned-words m b, taken-words m (x .shadows) b l, either-of 5 _ (offCell (begin w b l)) _)
+later-rows m (plain (free zero)) x = refl
+later-rows m (plain (free (suc b))) x = base.later-rows m (free (suc b)) (x .shadows)
+later-rows m (plain (written a n)) x = base.later-rows m (written a n) (x .shadows)
+later-rows m (plain (ask a)) x = base.later-rows m (ask a) (x .shadows)
+later-rows m (plain (valid a n from)) x = base.later-rows m (valid a n from) (x .shadows)
+later-rows m (plain (initialised a n)) x = base.later-rows m (initialised a n) (x .shadows)
+later-rows m (plain (next a)) x = base.later-rows m (next a) (x .shadows)
+later-rows m (plain audit) x = refl
+later-rows m (point c a) x =
+    rw (pointer-words m x c, outside-words m c, reading-words m (x .shadows) c, reading-words m (x .shadows) a)
+later-rows m (copy t f) x =
+    rw (pointer-words m x t, pointer-words m x f, outside-words m t, outside-words m f, reading-words m (x .shadows) t, reading-words m (x .shadows) f)
+later-rows m (live c a) x =
+    rw (pointer-words m x c, outside-words m c, reading-words m (x .shadows) c, reading-words m (x .shadows) a)
+
+-- 2 of the shadows and of the cells are one row
+lengths-row : (l p q : Bool) (k : ℕ) → cond (not l) 2 (cond (not (p && q)) 2 k) ≡ cond (not l || not p || not q) 2 k
+lengths-row true true q k = refl
+lengths-row true false q k = refl
+lengths-row false p q k = refl
+
+same-rows : (m : Map) (c : Call) (x : State) → firstOf (refusals m c x) ≡ firstOf (rows m c x)
+unfolding cellsFit
+same-rows m c x =
+    rw (
+      later-rows m c x,
+      lengths-row (lengthsFit m (x .shadows)) (eqb (length (x .cells .0)) (2 * m .«heap_size»)) (eqb (length (x .cells .1)) (2 * m .«stack_size»)) _,
+    )
+
+pub by-rows : (m : Map) (c : Call) (x : State) → numberOf m c x ≡ firstOf (rows m c x)
+by-rows m c x = number-first m c x ∙ same-rows m c x

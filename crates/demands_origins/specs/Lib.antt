@@ -1,0 +1,7 @@
+pub mod Numbers
+pub mod Demand1
+pub mod PlainKinds
+pub mod Alters
+pub mod Demand3
+pub mod Judged
+pub mod Samples

@@ -1,0 +1,52 @@
+// The check of a record: it only reads.
+ghost use mathlib.Core.Path.{_≡_};
+ghost use Rattle.plain.specs.Call as plain;
+ghost use Rattle.monitor_base.specs.Locating.{Lies};
+ghost use Rattle.monitor_write_laws.specs.Checks.{numberOf, Stampable};
+use map::Address;
+use map::Area;
+use map::Map;
+use monitor_base::Checked;
+use monitor_base::Located;
+use monitor_base::guard;
+use monitor_base::locating::end;
+use monitor_base::locating::locate;
+
+// The number, which does not depend on whether the bytes count as written; where it is 0, the block can be stamped at the place.
+pub fn check(
+    map: Map,
+    heap: &[u8],
+    primary: &[u8],
+    secondary: &[u8],
+    base: Address,
+    len: u32,
+) -> Checked
+    ensures { λ r. ⌜ (r .number ≡ numberOf map (plain.record-block (base .0) len) (now (heap .entry), (now (primary .entry), now (secondary .entry))))
+        × (r .number ≡ 0 → Lies map (base .0) (r .place) × Stampable (r .place) len (now (heap .entry), (now (primary .entry), now (secondary .entry)))) ⌝ }
+{
+    let k = guard::checked(map, heap.len(), primary.len(), secondary.len());
+    if k != 0 {
+        return Checked {
+            number: k,
+            place: Located::Outside,
+        };
+    }
+    if len == 0 {
+        return Checked {
+            number: 3,
+            place: Located::Outside,
+        };
+    }
+    let place = locate(map, base);
+    match place {
+        Located::Heap(p) => {
+            let number = monitor_begin::on_heap(heap, p, end(map, Area::Heap), len);
+            Checked { number, place }
+        }
+        Located::Stack(p) => {
+            let number = monitor_begin::on_stack(primary, secondary, p, end(map, Area::Stack), len);
+            Checked { number, place }
+        }
+        Located::Outside => Checked { number: 4, place },
+    }
+}

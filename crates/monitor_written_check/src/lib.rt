@@ -1,0 +1,77 @@
+// The check of a mark of written bytes: it only reads.
+ghost use mathlib.Core.Path.{_≡_};
+ghost use Rattle.plain.specs.Answers.{readingOf};
+ghost use Rattle.plain.specs.Call as plain;
+ghost use Rattle.monitor_base.specs.Locating.{Lies};
+ghost use Rattle.monitor_write_laws.specs.AreaCalls.{writtenRefusal};
+ghost use Rattle.monitor_write_laws.specs.Checks.{numberOf, Idle, Markable};
+use map::Address;
+use map::Map;
+use monitor_base::Checked;
+use monitor_base::Located;
+use monitor_base::guard;
+use monitor_base::locating::locate;
+use plain::Reading;
+
+// The number that a reading of the first of n bytes gives: 0 where they lie in one block. The sum is taken in 64 bits, where it cannot wrap.
+fn refused(r: Reading, n: u32) -> u32
+    ensures { λ k. ⌜ k ≡ writtenRefusal n (readingOf r) ⌝ }
+{
+    if let Reading::Block(_, len, offset, _) = r {
+        if (len as u64) < offset as u64 + n as u64 {
+            return 7;
+        }
+        return 0;
+    }
+    monitor_reading::missing(r)
+}
+
+// What is found in an area, by the number that the reading there gives.
+fn in_area(number: u32, place: Located) -> Checked
+    ensures { λ r. ⌜ (r .number ≡ number) × (number ≡ 0 → r .place ≡ place) × Idle number (r .place) ⌝ }
+{
+    if number != 0 {
+        return Checked {
+            number,
+            place: Located::Outside,
+        };
+    }
+    Checked { number, place }
+}
+
+// The number; where it is 0, the place of the first of the n bytes, else one in neither area: there is nothing to mark.
+pub fn check(map: Map, heap: &[u8], primary: &[u8], secondary: &[u8], a: Address, n: u32) -> Checked
+    ensures { λ r. ⌜ (r .number ≡ numberOf map (plain.written (a .0) n) (now (heap .entry), (now (primary .entry), now (secondary .entry))))
+        × (r .number ≡ 0 → Lies map (a .0) (r .place))
+        × Idle (r .number) (r .place)
+        × Markable (r .place) n (now (heap .entry)) (now (primary .entry)) ⌝ }
+{
+    let k = guard::checked(map, heap.len(), primary.len(), secondary.len());
+    if k != 0 {
+        return Checked {
+            number: k,
+            place: Located::Outside,
+        };
+    }
+    if n == 0 {
+        return Checked {
+            number: 3,
+            place: Located::Outside,
+        };
+    }
+    match locate(map, a) {
+        Located::Heap(p) => in_area(refused(heap_read::read(heap, p), n), Located::Heap(p)),
+        Located::Stack(p) => {
+            // The reading takes the reference from memory: this one is stored here alone, and not where the heap is read too.
+            let lent = secondary;
+            in_area(
+                refused(stack_read::read(primary, lent, p), n),
+                Located::Stack(p),
+            )
+        }
+        Located::Outside => Checked {
+            number: 4,
+            place: Located::Outside,
+        },
+    }
+}

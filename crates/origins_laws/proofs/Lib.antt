@@ -1,0 +1,3 @@
+pub mod AtLaws
+pub mod PlainLaws
+pub mod PointerLaws

@@ -1,0 +1,2 @@
+pub mod CellsAt
+pub mod Pointers

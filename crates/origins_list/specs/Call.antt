@@ -1,0 +1,73 @@
+-- Request S-4: the calls of the form with origins, and the refusals that only this form has. Assumes nothing.
+use mathlib.Core.Bool.{Bool, true, false, not, _&&_}
+use mathlib.Core.List.{List, [], _∷_}
+use Prim.Native.Nat.{ℕ, zero, suc, _%_}
+use lib.Dec.{leb, eqb}
+use Rattle.plain.specs.Call as base
+use Rattle.plain.specs.Call.{clear, begin, free, written, ask, valid, initialised, next, audit, Refusal}
+
+-- arguments are any numbers
+pub data Call : Type 0 where
+  -- a call of the plain form
+  plain : base.Call → Call
+  -- kind 11: the pointer in a cell is set to the block that holds the address, or to none
+  point : (cell address : ℕ) → Call
+  -- kind 12: the pointer in a cell is set as that in another
+  copy : (to from : ℕ) → Call
+  -- kind 13: the allocation that the pointer in a cell was last set to is live and holds the address
+  live : (cell address : ℕ) → Call
+
+-- an address is that of a cell
+abbrev pub isCell : ℕ → Bool
+isCell c = eqb (c % 4) 0
+
+-- "Origins run from 1 to 4,294,967,295"
+abbrev pub isOrigin : ℕ → Bool
+isOrigin k = leb 1 k && leb k 4294967295
+
+-- what a plain call is to cells and origins: clear zeroes all, a recording takes an origin, free of an address other than 0 zeroes the cells of its
+-- block, and every other call leaves them
+pub data Role : Type 0 where
+  clears : Role
+  begins : (base length : ℕ) → Role
+  frees : (base : ℕ) → Role
+  leaves : Role
+
+abbrev pub roleOf : base.Call → Role
+roleOf clear = clears
+roleOf (begin w b l) = begins b l
+roleOf (free zero) = leaves
+roleOf (free (suc x)) = frees (suc x)
+roleOf (written a n) = leaves
+roleOf (ask a) = leaves
+roleOf (valid a n from) = leaves
+roleOf (initialised a n) = leaves
+roleOf (next a) = leaves
+roleOf audit = leaves
+
+-- "every recorded base is a multiple of 4, else 5"
+abbrev pub unaligned : Role → List Refusal
+unaligned (begins b l) = (5, not (isCell b)) ∷ []
+unaligned clears = []
+unaligned (frees x) = []
+unaligned leaves = []
+
+-- "12, after 6, for each recording call, a counter outside 1 to 4,294,967,295"
+abbrev pub usedUp : Role → (counter : ℕ) → List Refusal
+usedUp (begins b l) k = (12, not (isOrigin k)) ∷ []
+usedUp clears k = []
+usedUp (frees x) k = []
+usedUp leaves k = []
+
+-- "recording stores it ..., then adds 1"; no other call takes an origin
+abbrev pub isBegun : Role → Bool
+isBegun (begins b l) = true
+isBegun clears = false
+isBegun (frees x) = false
+isBegun leaves = false
+
+abbrev pub takesOrigin : Call → Bool
+takesOrigin (plain c) = isBegun (roleOf c)
+takesOrigin (point c a) = false
+takesOrigin (copy t f) = false
+takesOrigin (live c a) = false

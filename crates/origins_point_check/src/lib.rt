@@ -1,0 +1,56 @@
+// The check of a point: it only reads.
+ghost use mathlib.Core.Path.{_≡_};
+ghost use Rattle.origins_laws.specs.Pointers.{pointNumber, originHeld, CellLies};
+use map::Address;
+use map::Map;
+use monitor_base::Located;
+use monitor_base::locating::locate;
+use monitor_reading::reading;
+use origins_base::guard;
+use origins_cells_read::origin_of;
+use origins_pointer::Aim;
+use origins_pointer::point_refusal;
+use origins_pointer::refused;
+
+// The origin is that of the block that holds the address, 0 where there is none: an address in neither area is in no block.
+pub fn check(
+    map: Map,
+    heap: &[u8],
+    primary: &[u8],
+    secondary: &[u8],
+    heap_cells: &[u8],
+    stack_cells: &[u8],
+    cell: Address,
+    a: Address,
+) -> Aim
+    ensures { λ r. ⌜ (r .number ≡ pointNumber map (now (heap .entry), (now (primary .entry), now (secondary .entry)))
+        (now («heap_cells» .entry), now («stack_cells» .entry)) (cell .0) (a .0))
+        × (r .number ≡ 0 → CellLies map (now (heap .entry), (now (primary .entry), now (secondary .entry)))
+        (now («heap_cells» .entry), now («stack_cells» .entry)) (cell .0) (r .place)
+        × (r .origin ≡ originHeld map (now (heap .entry), (now (primary .entry), now (secondary .entry)))
+        (now («heap_cells» .entry), now («stack_cells» .entry)) (a .0))) ⌝ }
+{
+    let k = guard::checked(
+        map,
+        heap.len(),
+        primary.len(),
+        secondary.len(),
+        heap_cells.len(),
+        stack_cells.len(),
+    );
+    if k != 0 {
+        return refused(k);
+    }
+    let place = locate(map, cell);
+    let target = locate(map, a);
+    if let Located::Outside = place {
+        return refused(4);
+    }
+    let held = reading(heap, primary, secondary, place);
+    let told = reading(heap, primary, secondary, target);
+    Aim {
+        number: point_refusal(cell, held, told),
+        place,
+        origin: origin_of(heap_cells, stack_cells, target, told),
+    }
+}
