@@ -45,6 +45,7 @@ exported() {
         s/([a-z_]+): &\[u8\]/const uint8_t *\1, size_t \1_length/g
         s/([a-z_]+): &mut \[u8\]/uint8_t *\1, size_t \1_length/g
         s/([a-z_]+): u32/uint32_t \1/g
+        s/([a-z_]+): u8/uint8_t \1/g
         s/([a-z_]+): bool/bool \1/g
         s/([a-z_]+): &mut u64/uint64_t *\1/g
         s/^pub extern "C" fn ([a-z_]+)\( ?(.*[^, ]),? ?\) -> u32$/uint32_t \1(\2);/'
@@ -80,7 +81,10 @@ int main()
 {
     static uint8_t heap[16], primary[16], secondary[16], heap_cells[32], stack_cells[32];
     const struct block_monitor monitor = {{8, 16, 24, 16}, heap, 16, primary, 16, secondary, 16};
-    if (monitor_record_written(&monitor, 24, 4) != BLOCK_MONITOR_ACCEPTED || monitor_clear(&monitor) != BLOCK_MONITOR_ACCEPTED)
+    uint32_t readable;
+    if (monitor_record_literal(&monitor, 24, 4) != BLOCK_MONITOR_ACCEPTED || monitor_valid_read(&monitor, 24, 4, 24, &readable) != BLOCK_MONITOR_ACCEPTED)
+        return 1;
+    if (readable != 1 || monitor_clear(&monitor) != BLOCK_MONITOR_ACCEPTED)
         return 1;
     struct block_monitor_origins origins = {{8, 16, 24, 16}, heap, 16, primary, 16, secondary, 16, heap_cells, 32, stack_cells, 32, 1};
     if (monitor_origins_record(&origins, 16, 4) != BLOCK_MONITOR_ACCEPTED || origins.counter != 2)
@@ -131,12 +135,12 @@ lesson() {
     [ "$got" -eq "$status" ] || fail "$expected ($*): exit status $got, expected $status"
 }
 
-# Seven mistakes are found in both forms; the plain form takes the eighth for good, and the lesson runs to its end.
+# All mistakes but the eighth are found in both forms; the plain form takes that for good, and the lesson runs to its end.
 test_lesson() {
     local form n
     for form in "${forms[@]}"; do
         lesson "$form" 0 lesson.expected 0 "$@"
-        for n in 1 2 3 4 5 6 7; do
+        for n in 1 2 3 4 5 6 7 9; do
             lesson "$form" $n mistake-$n.expected 1 "$@"
         done
     done

@@ -10,6 +10,7 @@
 #ifndef BLOCK_MONITOR_H
 #define BLOCK_MONITOR_H
 
+#include <stdbool.h>
 #include <stddef.h>
 #include <stdint.h>
 
@@ -29,21 +30,30 @@ extern "C" {
 
 /*
  * What a call returns: accepted, or why it is refused. A refused call stores zero in every field and alters no shadow byte. The lowest number
- * that holds is returned, but 8 comes before 7. Where a number is said to be record's, it is record_written's as well. 11 and 12 are of the form
- * with origins alone. Later numbers may be added: take any that is not 0 for a refusal.
+ * that holds is returned, but 8 comes before 7. Where a number is said to be record's, it is that of record_written and record_literal as well,
+ * but that a heap base is 4 of the last. 11 and 12 are of the form with origins alone. Later numbers may be added: take any that is not 0 for a
+ * refusal.
  */
 enum block_monitor_number {
     BLOCK_MONITOR_ACCEPTED = 0,
     BLOCK_MONITOR_BAD_MAP = 1,       /* the map breaks a rule */
     BLOCK_MONITOR_SHADOW_LENGTH = 2, /* a shadow is not as long as its area; with origins: or cells are not twice as long */
     BLOCK_MONITOR_NO_BYTES = 3,      /* length or n is 0 */
-    BLOCK_MONITOR_OUTSIDE = 4,       /* in neither area, but for free of 0; record: block or heap header does not fit its area */
+    BLOCK_MONITOR_OUTSIDE = 4,       /* in neither area, but for free of 0; record: block or header does not fit; record_literal: in the heap */
     BLOCK_MONITOR_UNALIGNED = 5,     /* record: the heap base is no multiple of 8; with origins: or the stack base none of 4 */
     BLOCK_MONITOR_OCCUPIED = 6,      /* record: the place, with its header, is not free */
     BLOCK_MONITOR_NO_BLOCK = 7,      /* no block there; free: not its first byte; written: not all in one; next: none follows */
     BLOCK_MONITOR_DAMAGED = 8,       /* a shadow was overwritten: what is met there is no block's state; audit: no list's image */
     BLOCK_MONITOR_NO_POINTER = 11,   /* point, copy, live: no cell there: no multiple of 4, or its four bytes are not in one block */
-    BLOCK_MONITOR_NO_ORIGIN = 12     /* record: the counter is no origin, 1 to 4,294,967,295 */
+    BLOCK_MONITOR_NO_ORIGIN = 12,    /* record: the counter is no origin, 1 to 4,294,967,295 */
+    BLOCK_MONITOR_LITERAL = 13       /* written: the block is a literal, which may only be read */
+};
+
+/* How a block begins. */
+enum block_monitor_beginning {
+    BLOCK_MONITOR_BEGIN_UNWRITTEN = 0, /* record: no byte of it is written yet */
+    BLOCK_MONITOR_BEGIN_WRITTEN = 1,   /* record_written: all are, as those of a static object, which C zeroes before main */
+    BLOCK_MONITOR_BEGIN_LITERAL = 2    /* record_literal: all are, and none may be written again, as those of a string literal; so any higher number */
 };
 
 /*
@@ -58,13 +68,9 @@ enum block_monitor_number {
 uint32_t block_monitor_clear(const uint32_t map[4], uint8_t *heap, size_t heap_length, uint8_t *primary, size_t primary_length,
                              uint8_t *secondary, size_t secondary_length, uint32_t fields[4]);
 
-/* A block begins, heap or stack by its base; no byte of it is written yet. */
-uint32_t block_monitor_record(const uint32_t map[4], uint8_t *heap, size_t heap_length, uint8_t *primary, size_t primary_length,
-                              uint8_t *secondary, size_t secondary_length, uint32_t base, uint32_t length, uint32_t fields[4]);
-
-/* The same, but all bytes of the block are written from the start, as those of a static object, which C zeroes before main. */
-uint32_t block_monitor_record_written(const uint32_t map[4], uint8_t *heap, size_t heap_length, uint8_t *primary, size_t primary_length,
-                                      uint8_t *secondary, size_t secondary_length, uint32_t base, uint32_t length, uint32_t fields[4]);
+/* A block begins, heap or stack by its base; a literal in the stack area alone: any base in the heap is outside. how is a block_monitor_beginning. */
+uint32_t block_monitor_begin(const uint32_t map[4], uint8_t *heap, size_t heap_length, uint8_t *primary, size_t primary_length,
+                             uint8_t *secondary, size_t secondary_length, uint32_t base, uint32_t length, uint8_t how, uint32_t fields[4]);
 
 /*
  * The block with this base ends. With 0, the null pointer's address, it is accepted after 1 and 2 and does nothing, as C's free does. So no
@@ -73,7 +79,7 @@ uint32_t block_monitor_record_written(const uint32_t map[4], uint8_t *heap, size
 uint32_t block_monitor_free(const uint32_t map[4], uint8_t *heap, size_t heap_length, uint8_t *primary, size_t primary_length,
                             uint8_t *secondary, size_t secondary_length, uint32_t base, uint32_t fields[4]);
 
-/* n bytes of one block count as written from now on. */
+/* n bytes of one block, which is no literal, count as written from now on. */
 uint32_t block_monitor_written(const uint32_t map[4], uint8_t *heap, size_t heap_length, uint8_t *primary, size_t primary_length,
                                uint8_t *secondary, size_t secondary_length, uint32_t address, uint32_t n, uint32_t fields[4]);
 
@@ -81,10 +87,13 @@ uint32_t block_monitor_written(const uint32_t map[4], uint8_t *heap, size_t heap
 uint32_t block_monitor_ask(const uint32_t map[4], const uint8_t *heap, size_t heap_length, const uint8_t *primary, size_t primary_length,
                            const uint8_t *secondary, size_t secondary_length, uint32_t address, uint32_t fields[4]);
 
-/* Field: 1 if one block holds from and all n bytes at the address, else 0. */
-uint32_t block_monitor_valid(const uint32_t map[4], const uint8_t *heap, size_t heap_length, const uint8_t *primary, size_t primary_length,
-                             const uint8_t *secondary, size_t secondary_length, uint32_t address, uint32_t n, uint32_t from,
-                             uint32_t fields[4]);
+/*
+ * Field: 1 if one block holds from and all n bytes at the address and, where write is true, is no literal, else 0. Before a write, with write; before
+ * a read, without.
+ */
+uint32_t block_monitor_access(const uint32_t map[4], const uint8_t *heap, size_t heap_length, const uint8_t *primary, size_t primary_length,
+                              const uint8_t *secondary, size_t secondary_length, uint32_t address, uint32_t n, uint32_t from, bool write,
+                              uint32_t fields[4]);
 
 /* Field: 1 if one block holds all n bytes and each is written, else 0. */
 uint32_t block_monitor_initialised(const uint32_t map[4], const uint8_t *heap, size_t heap_length, const uint8_t *primary,
@@ -98,6 +107,44 @@ uint32_t block_monitor_next(const uint32_t map[4], const uint8_t *heap, size_t h
 /* The whole of the shadows is looked through. Fields: heap blocks, stack blocks, live bytes, written bytes. */
 uint32_t block_monitor_audit(const uint32_t map[4], const uint8_t *heap, size_t heap_length, const uint8_t *primary, size_t primary_length,
                              const uint8_t *secondary, size_t secondary_length, uint32_t fields[4]);
+
+/* The ways to record, and the two questions of a range, each by its name. */
+static inline uint32_t block_monitor_record(const uint32_t map[4], uint8_t *heap, size_t heap_length, uint8_t *primary, size_t primary_length,
+                                            uint8_t *secondary, size_t secondary_length, uint32_t base, uint32_t length, uint32_t fields[4])
+{
+    return block_monitor_begin(map, heap, heap_length, primary, primary_length, secondary, secondary_length, base, length,
+                               BLOCK_MONITOR_BEGIN_UNWRITTEN, fields);
+}
+
+static inline uint32_t block_monitor_record_written(const uint32_t map[4], uint8_t *heap, size_t heap_length, uint8_t *primary,
+                                                    size_t primary_length, uint8_t *secondary, size_t secondary_length, uint32_t base,
+                                                    uint32_t length, uint32_t fields[4])
+{
+    return block_monitor_begin(map, heap, heap_length, primary, primary_length, secondary, secondary_length, base, length,
+                               BLOCK_MONITOR_BEGIN_WRITTEN, fields);
+}
+
+static inline uint32_t block_monitor_record_literal(const uint32_t map[4], uint8_t *heap, size_t heap_length, uint8_t *primary,
+                                                    size_t primary_length, uint8_t *secondary, size_t secondary_length, uint32_t base,
+                                                    uint32_t length, uint32_t fields[4])
+{
+    return block_monitor_begin(map, heap, heap_length, primary, primary_length, secondary, secondary_length, base, length,
+                               BLOCK_MONITOR_BEGIN_LITERAL, fields);
+}
+
+static inline uint32_t block_monitor_valid(const uint32_t map[4], const uint8_t *heap, size_t heap_length, const uint8_t *primary,
+                                           size_t primary_length, const uint8_t *secondary, size_t secondary_length, uint32_t address,
+                                           uint32_t n, uint32_t from, uint32_t fields[4])
+{
+    return block_monitor_access(map, heap, heap_length, primary, primary_length, secondary, secondary_length, address, n, from, true, fields);
+}
+
+static inline uint32_t block_monitor_valid_read(const uint32_t map[4], const uint8_t *heap, size_t heap_length, const uint8_t *primary,
+                                                size_t primary_length, const uint8_t *secondary, size_t secondary_length, uint32_t address,
+                                                uint32_t n, uint32_t from, uint32_t fields[4])
+{
+    return block_monitor_access(map, heap, heap_length, primary, primary_length, secondary, secondary_length, address, n, from, false, fields);
+}
 
 /*
  * The same calls with map and shadows in one struct, and answers with names. A block_monitor is set up once, by an initialiser:
@@ -156,6 +203,12 @@ static inline uint32_t monitor_record_written(const struct block_monitor *monito
     return block_monitor_record_written(BLOCK_MONITOR_LENT(monitor), base, length, fields);
 }
 
+static inline uint32_t monitor_record_literal(const struct block_monitor *monitor, uint32_t base, uint32_t length)
+{
+    uint32_t fields[4];
+    return block_monitor_record_literal(BLOCK_MONITOR_LENT(monitor), base, length, fields);
+}
+
 static inline uint32_t monitor_free(const struct block_monitor *monitor, uint32_t base)
 {
     uint32_t fields[4];
@@ -184,6 +237,15 @@ static inline uint32_t monitor_valid(const struct block_monitor *monitor, uint32
 {
     uint32_t fields[4];
     uint32_t number = block_monitor_valid(BLOCK_MONITOR_LENT(monitor), address, n, from, fields);
+    *answer = fields[0];
+    return number;
+}
+
+/* answer: as for monitor_valid. */
+static inline uint32_t monitor_valid_read(const struct block_monitor *monitor, uint32_t address, uint32_t n, uint32_t from, uint32_t *answer)
+{
+    uint32_t fields[4];
+    uint32_t number = block_monitor_valid_read(BLOCK_MONITOR_LENT(monitor), address, n, from, fields);
     *answer = fields[0];
     return number;
 }
@@ -234,6 +296,7 @@ static inline const char *monitor_words(uint32_t number)
     case BLOCK_MONITOR_DAMAGED: return "a shadow is damaged";
     case BLOCK_MONITOR_NO_POINTER: return "no pointer can stand there";
     case BLOCK_MONITOR_NO_ORIGIN: return "the origins are used up";
+    case BLOCK_MONITOR_LITERAL: return "a literal may only be read";
     default: return "an unknown number";
     }
 }

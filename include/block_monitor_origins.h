@@ -11,8 +11,6 @@
 #ifndef BLOCK_MONITOR_ORIGINS_H
 #define BLOCK_MONITOR_ORIGINS_H
 
-#include <stdbool.h>
-
 #include "block_monitor.h"
 
 #ifdef __cplusplus
@@ -40,12 +38,12 @@ uint32_t block_monitor_origins_clear(const uint32_t map[4], uint8_t *heap, size_
                                      uint8_t *stack_cells, size_t stack_cells_length, uint32_t fields[4]);
 
 /*
- * A block begins, heap or stack by its base, a multiple of 4 in either; all bytes of it are written from the start, or none is. The counter is its
- * origin, then adds 1.
+ * A block begins, heap or stack by its base, a multiple of 4 in either; a literal in the stack area alone. how is a block_monitor_beginning. The
+ * counter is its origin, then adds 1.
  */
 uint32_t block_monitor_origins_begin(const uint32_t map[4], uint8_t *heap, size_t heap_length, uint8_t *primary, size_t primary_length,
                                      uint8_t *secondary, size_t secondary_length, uint8_t *heap_cells, size_t heap_cells_length,
-                                     uint8_t *stack_cells, size_t stack_cells_length, uint32_t base, uint32_t length, bool written,
+                                     uint8_t *stack_cells, size_t stack_cells_length, uint32_t base, uint32_t length, uint8_t how,
                                      uint64_t *counter, uint32_t fields[4]);
 
 /* The block with this base ends, and with it each pointer that is kept in it. With 0 it does nothing, as in the plain form. */
@@ -53,7 +51,7 @@ uint32_t block_monitor_origins_free(const uint32_t map[4], uint8_t *heap, size_t
                                     uint8_t *secondary, size_t secondary_length, uint8_t *heap_cells, size_t heap_cells_length,
                                     uint8_t *stack_cells, size_t stack_cells_length, uint32_t base, uint32_t fields[4]);
 
-/* n bytes of one block count as written from now on. */
+/* n bytes of one block, which is no literal, count as written from now on. */
 uint32_t block_monitor_origins_written(const uint32_t map[4], uint8_t *heap, size_t heap_length, uint8_t *primary, size_t primary_length,
                                        uint8_t *secondary, size_t secondary_length, const uint8_t *heap_cells, size_t heap_cells_length,
                                        const uint8_t *stack_cells, size_t stack_cells_length, uint32_t address, uint32_t n, uint32_t fields[4]);
@@ -64,11 +62,11 @@ uint32_t block_monitor_origins_ask(const uint32_t map[4], const uint8_t *heap, s
                                    size_t heap_cells_length, const uint8_t *stack_cells, size_t stack_cells_length, uint32_t address,
                                    uint32_t fields[4]);
 
-/* Field: 1 if one block holds from and all n bytes at the address, else 0. */
-uint32_t block_monitor_origins_valid(const uint32_t map[4], const uint8_t *heap, size_t heap_length, const uint8_t *primary,
-                                     size_t primary_length, const uint8_t *secondary, size_t secondary_length, const uint8_t *heap_cells,
-                                     size_t heap_cells_length, const uint8_t *stack_cells, size_t stack_cells_length, uint32_t address,
-                                     uint32_t n, uint32_t from, uint32_t fields[4]);
+/* Field: 1 if one block holds from and all n bytes at the address and, where write is true, is no literal, else 0. */
+uint32_t block_monitor_origins_access(const uint32_t map[4], const uint8_t *heap, size_t heap_length, const uint8_t *primary,
+                                      size_t primary_length, const uint8_t *secondary, size_t secondary_length, const uint8_t *heap_cells,
+                                      size_t heap_cells_length, const uint8_t *stack_cells, size_t stack_cells_length, uint32_t address,
+                                      uint32_t n, uint32_t from, bool write, uint32_t fields[4]);
 
 /* Field: 1 if one block holds all n bytes and each is written, else 0. */
 uint32_t block_monitor_origins_initialised(const uint32_t map[4], const uint8_t *heap, size_t heap_length, const uint8_t *primary,
@@ -87,7 +85,7 @@ uint32_t block_monitor_origins_audit(const uint32_t map[4], const uint8_t *heap,
                                      size_t primary_length, const uint8_t *secondary, size_t secondary_length, const uint8_t *heap_cells,
                                      size_t heap_cells_length, const uint8_t *stack_cells, size_t stack_cells_length, uint32_t fields[4]);
 
-/* The pointer in this cell is set to the block that holds the address, or to none where no block does. */
+/* The pointer in this cell, which may lie in a literal too, is set to the block that holds the address, or to none where no block does. */
 uint32_t block_monitor_origins_point(const uint32_t map[4], const uint8_t *heap, size_t heap_length, const uint8_t *primary,
                                      size_t primary_length, const uint8_t *secondary, size_t secondary_length, uint8_t *heap_cells,
                                      size_t heap_cells_length, uint8_t *stack_cells, size_t stack_cells_length, uint32_t cell, uint32_t address,
@@ -104,6 +102,26 @@ uint32_t block_monitor_origins_live(const uint32_t map[4], const uint8_t *heap, 
                                     size_t primary_length, const uint8_t *secondary, size_t secondary_length, const uint8_t *heap_cells,
                                     size_t heap_cells_length, const uint8_t *stack_cells, size_t stack_cells_length, uint32_t cell,
                                     uint32_t address, uint32_t fields[4]);
+
+/* The two questions of a range, each by its name. */
+static inline uint32_t block_monitor_origins_valid(const uint32_t map[4], const uint8_t *heap, size_t heap_length, const uint8_t *primary,
+                                                   size_t primary_length, const uint8_t *secondary, size_t secondary_length,
+                                                   const uint8_t *heap_cells, size_t heap_cells_length, const uint8_t *stack_cells,
+                                                   size_t stack_cells_length, uint32_t address, uint32_t n, uint32_t from, uint32_t fields[4])
+{
+    return block_monitor_origins_access(map, heap, heap_length, primary, primary_length, secondary, secondary_length, heap_cells,
+                                        heap_cells_length, stack_cells, stack_cells_length, address, n, from, true, fields);
+}
+
+static inline uint32_t block_monitor_origins_valid_read(const uint32_t map[4], const uint8_t *heap, size_t heap_length, const uint8_t *primary,
+                                                        size_t primary_length, const uint8_t *secondary, size_t secondary_length,
+                                                        const uint8_t *heap_cells, size_t heap_cells_length, const uint8_t *stack_cells,
+                                                        size_t stack_cells_length, uint32_t address, uint32_t n, uint32_t from,
+                                                        uint32_t fields[4])
+{
+    return block_monitor_origins_access(map, heap, heap_length, primary, primary_length, secondary, secondary_length, heap_cells,
+                                        heap_cells_length, stack_cells, stack_cells_length, address, n, from, false, fields);
+}
 
 /*
  * The same calls with map, shadows, cells and counter in one struct, and answers with names. It is set up once, by an initialiser, and is not
@@ -148,13 +166,22 @@ static inline uint32_t monitor_origins_clear(const struct block_monitor_origins 
 static inline uint32_t monitor_origins_record(struct block_monitor_origins *monitor, uint32_t base, uint32_t length)
 {
     uint32_t fields[4];
-    return block_monitor_origins_begin(BLOCK_MONITOR_ORIGINS_LENT(monitor), base, length, false, &monitor->counter, fields);
+    return block_monitor_origins_begin(BLOCK_MONITOR_ORIGINS_LENT(monitor), base, length, BLOCK_MONITOR_BEGIN_UNWRITTEN, &monitor->counter,
+                                       fields);
 }
 
 static inline uint32_t monitor_origins_record_written(struct block_monitor_origins *monitor, uint32_t base, uint32_t length)
 {
     uint32_t fields[4];
-    return block_monitor_origins_begin(BLOCK_MONITOR_ORIGINS_LENT(monitor), base, length, true, &monitor->counter, fields);
+    return block_monitor_origins_begin(BLOCK_MONITOR_ORIGINS_LENT(monitor), base, length, BLOCK_MONITOR_BEGIN_WRITTEN, &monitor->counter,
+                                       fields);
+}
+
+static inline uint32_t monitor_origins_record_literal(struct block_monitor_origins *monitor, uint32_t base, uint32_t length)
+{
+    uint32_t fields[4];
+    return block_monitor_origins_begin(BLOCK_MONITOR_ORIGINS_LENT(monitor), base, length, BLOCK_MONITOR_BEGIN_LITERAL, &monitor->counter,
+                                       fields);
 }
 
 static inline uint32_t monitor_origins_free(const struct block_monitor_origins *monitor, uint32_t base)
@@ -186,6 +213,16 @@ static inline uint32_t monitor_origins_valid(const struct block_monitor_origins 
 {
     uint32_t fields[4];
     uint32_t number = block_monitor_origins_valid(BLOCK_MONITOR_ORIGINS_LENT(monitor), address, n, from, fields);
+    *answer = fields[0];
+    return number;
+}
+
+/* answer: as for monitor_origins_valid. */
+static inline uint32_t monitor_origins_valid_read(const struct block_monitor_origins *monitor, uint32_t address, uint32_t n, uint32_t from,
+                                                  uint32_t *answer)
+{
+    uint32_t fields[4];
+    uint32_t number = block_monitor_origins_valid_read(BLOCK_MONITOR_ORIGINS_LENT(monitor), address, n, from, fields);
     *answer = fields[0];
     return number;
 }

@@ -9,6 +9,7 @@ void *__e_acsl_store_block(void *p, size_t size);
 void __e_acsl_delete_block(void *p);
 void __e_acsl_initialize(void *p, size_t n);
 int __e_acsl_valid(void *p, size_t n, void *base, void *base_address);
+int __e_acsl_valid_read(void *p, size_t n, void *base, void *base_address);
 int __e_acsl_initialized(void *p, size_t n);
 void *__e_acsl_base_addr(void *p);
 size_t __e_acsl_block_length(void *p);

@@ -22,7 +22,7 @@
 
 void *malloc(size_t size);
 
-enum kind { RECORD = 2, RELEASE, WRITTEN, ASK, VALID, INITIALISED, RECORD_WRITTEN = 10 };
+enum kind { RECORD = 2, RELEASE, WRITTEN, ASK, VALID, INITIALISED, RECORD_WRITTEN = 10, VALID_READ = 15 };
 
 struct op {
   uint32_t kind, heap, offset, n, from;
@@ -117,6 +117,8 @@ static uint64_t any(const struct call *c) {
     return ask(c);
   case VALID:
     return (uint64_t)__e_acsl_valid(c->p, c->n, c->from, NULL);
+  case VALID_READ:
+    return (uint64_t)__e_acsl_valid_read(c->p, c->n, c->from, NULL);
   case INITIALISED:
     return (uint64_t)__e_acsl_initialized(c->p, c->n);
   }
@@ -168,6 +170,9 @@ uint64_t bench_measured(const struct list *list, int uniform) {
     break;
   case VALID:
     EACH(sum += (uint64_t)__e_acsl_valid(c->p, c->n, c->from, NULL);)
+    break;
+  case VALID_READ:
+    EACH(sum += (uint64_t)__e_acsl_valid_read(c->p, c->n, c->from, NULL);)
     break;
   case INITIALISED:
     EACH(sum += (uint64_t)__e_acsl_initialized(c->p, c->n);)

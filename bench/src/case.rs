@@ -54,10 +54,11 @@ impl Case {
         }
     }
 
-    /// E-ACSL has no search, no audit and no clearing.
+    /// E-ACSL has no search, no audit and no clearing, and its literals are not on the stack.
     pub fn known_to_eacsl(&self) -> bool {
-        let unknown = |call: &Call| matches!(call, Call::Next { .. } | Call::Audit | Call::Clear);
-        !self.timed.iter().any(unknown)
+        let whole = |call: &Call| matches!(call, Call::Next { .. } | Call::Audit | Call::Clear);
+        let literal = |call: &Call| matches!(call, Call::RecordLiteral { .. });
+        !self.timed.iter().any(|call| whole(call) || literal(call))
     }
 
     /// Whether its calls set marks or look at them.
@@ -127,32 +128,38 @@ fn half(block: &Block) -> u32 {
     block.written_count()
 }
 
+/// The call for an address in a block.
+type Within = fn(&Block, u32) -> Call;
+
+/// The calls that take readings alone: a case's words, how many bytes, and the call.
+#[rustfmt::skip]
+const LOOKS: [(&str, u32, Within); 3] = [
+    ("ask", 1, |_, address| Call::Ask { address }),
+    ("valid of 4", 4, |block, address| Call::Valid { address, n: 4, from: block.base }),
+    ("valid_read of 4", 4, |block, address| Call::ValidRead { address, n: 4, from: block.base }),
+];
+
 fn readings(state: &State) -> Vec<Case> {
     let heap = state.heap_blocks();
     let (short, long): (Vec<Block>, Vec<Block>) = state
         .stack_blocks()
         .into_iter()
         .partition(|block| block.length <= 8);
-    let ask = |_: &Block, address| Call::Ask { address };
-    let valid = |block: &Block, address| Call::Valid {
-        address,
-        n: 4,
-        from: block.base,
-    };
+    let places = [
+        ("heap", &heap),
+        ("short stack block", &short),
+        ("long stack block", &long),
+    ];
     let mut cases = Vec::new();
     let mut add = |title: &str, timed| cases.push(Case::new(title, Group::Reading, FILLED, timed));
-    add("ask, heap", queries(&heap, 1, whole, ask));
-    add("ask, short stack block", queries(&short, 1, whole, ask));
-    add("ask, long stack block", queries(&long, 1, whole, ask));
-    add("valid of 4, heap", queries(&heap, 4, whole, valid));
-    add(
-        "valid of 4, short stack block",
-        queries(&short, 4, whole, valid),
-    );
-    add(
-        "valid of 4, long stack block",
-        queries(&long, 4, whole, valid),
-    );
+    for (words, n, call) in LOOKS {
+        for (place, blocks) in places {
+            add(
+                &format!("{words}, {place}"),
+                queries(blocks, n, whole, call),
+            );
+        }
+    }
     for n in [1, 8] {
         let initialised = move |_: &Block, address| Call::Initialised { address, n };
         add(

@@ -19,7 +19,12 @@ pub fn plan() -> Plan {
     let states = vec![filled(ALIGNED), roomy(ALIGNED)];
     let mut cases = pointers(&states[FILLED]);
     let placed = places::cases(&states[ROOMY]).into_iter();
-    cases.extend(placed.filter(|case| matches!(case.calls, Calls::Records(_) | Calls::Frees(_))));
+    cases.extend(placed.filter(|case| {
+        matches!(
+            case.calls,
+            Calls::Records(_) | Calls::RecordsLiteral(_) | Calls::Frees(_)
+        )
+    }));
     Plan {
         states,
         cases,

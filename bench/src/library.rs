@@ -46,16 +46,24 @@ impl Lent {
     }
 }
 
+/// How a block begins.
+const UNWRITTEN: u8 = 0;
+const WRITTEN: u8 = 1;
+const LITERAL: u8 = 2;
+
+/// What a build lacks that knows no literals (before.sh).
+const LITERALS: &str = "literals";
+
 /// The call's symbol, without a prefix.
 fn symbol(call: &Call) -> &'static str {
     match call {
         Call::Clear => "block_monitor_clear",
-        Call::Record { .. } => "block_monitor_record",
-        Call::RecordWritten { .. } => "block_monitor_record_written",
+        Call::Record { .. } | Call::RecordWritten { .. } => "block_monitor_begin",
+        Call::RecordLiteral { .. } | Call::ValidRead { .. } => LITERALS,
         Call::Free { .. } => "block_monitor_free",
         Call::Written { .. } => "block_monitor_written",
         Call::Ask { .. } => "block_monitor_ask",
-        Call::Valid { .. } => "block_monitor_valid",
+        Call::Valid { .. } => "block_monitor_access",
         Call::Initialised { .. } => "block_monitor_initialised",
         Call::Next { .. } => "block_monitor_next",
         Call::Audit => "block_monitor_audit",
@@ -64,8 +72,8 @@ fn symbol(call: &Call) -> &'static str {
 
 /// Declares the symbols of a build and makes a side of it, with the symbols that it lacks: in their place stand stubs (before.sh).
 macro_rules! build {
-    ($side:ident, $clear:literal, $record:literal, $record_written:literal, $free:literal, $written:literal,
-     $ask:literal, $valid:literal, $initialised:literal, $next:literal, $audit:literal) => {
+    ($side:ident, $clear:literal, $begin:literal, $free:literal, $written:literal, $ask:literal, $access:literal, $initialised:literal,
+     $next:literal, $audit:literal) => {
         pub mod $side {
             use super::*;
 
@@ -74,18 +82,16 @@ macro_rules! build {
             extern "C" {
                 #[link_name = $clear]
                 fn clear(map: *const Four, h: *mut u8, hl: usize, p: *mut u8, pl: usize, s: *mut u8, sl: usize, f: *mut Four) -> u32;
-                #[link_name = $record]
-                fn record(map: *const Four, h: *mut u8, hl: usize, p: *mut u8, pl: usize, s: *mut u8, sl: usize, base: u32, n: u32, f: *mut Four) -> u32;
-                #[link_name = $record_written]
-                fn record_written(map: *const Four, h: *mut u8, hl: usize, p: *mut u8, pl: usize, s: *mut u8, sl: usize, base: u32, n: u32, f: *mut Four) -> u32;
+                #[link_name = $begin]
+                fn begin(map: *const Four, h: *mut u8, hl: usize, p: *mut u8, pl: usize, s: *mut u8, sl: usize, base: u32, n: u32, how: u8, f: *mut Four) -> u32;
                 #[link_name = $free]
                 fn free(map: *const Four, h: *mut u8, hl: usize, p: *mut u8, pl: usize, s: *mut u8, sl: usize, base: u32, f: *mut Four) -> u32;
                 #[link_name = $written]
                 fn written(map: *const Four, h: *mut u8, hl: usize, p: *mut u8, pl: usize, s: *mut u8, sl: usize, a: u32, n: u32, f: *mut Four) -> u32;
                 #[link_name = $ask]
                 fn ask(map: *const Four, h: *const u8, hl: usize, p: *const u8, pl: usize, s: *const u8, sl: usize, a: u32, f: *mut Four) -> u32;
-                #[link_name = $valid]
-                fn valid(map: *const Four, h: *const u8, hl: usize, p: *const u8, pl: usize, s: *const u8, sl: usize, a: u32, n: u32, from: u32, f: *mut Four) -> u32;
+                #[link_name = $access]
+                fn access(map: *const Four, h: *const u8, hl: usize, p: *const u8, pl: usize, s: *const u8, sl: usize, a: u32, n: u32, from: u32, write: bool, f: *mut Four) -> u32;
                 #[link_name = $initialised]
                 fn initialised(map: *const Four, h: *const u8, hl: usize, p: *const u8, pl: usize, s: *const u8, sl: usize, a: u32, n: u32, f: *mut Four) -> u32;
                 #[link_name = $next]
@@ -113,12 +119,14 @@ macro_rules! build {
                     let number = unsafe {
                         match call {
                             Call::Clear => clear(m, h, hl, p, pl, s, sl, f),
-                            Call::Record { base, length } => record(m, h, hl, p, pl, s, sl, base, length, f),
-                            Call::RecordWritten { base, length } => record_written(m, h, hl, p, pl, s, sl, base, length, f),
+                            Call::Record { base, length } => begin(m, h, hl, p, pl, s, sl, base, length, UNWRITTEN, f),
+                            Call::RecordWritten { base, length } => begin(m, h, hl, p, pl, s, sl, base, length, WRITTEN, f),
+                            Call::RecordLiteral { base, length } => begin(m, h, hl, p, pl, s, sl, base, length, LITERAL, f),
                             Call::Free { base } => free(m, h, hl, p, pl, s, sl, base, f),
                             Call::Written { address, n } => written(m, h, hl, p, pl, s, sl, address, n, f),
                             Call::Ask { address } => ask(m, h, hl, p, pl, s, sl, address, f),
-                            Call::Valid { address, n, from } => valid(m, h, hl, p, pl, s, sl, address, n, from, f),
+                            Call::Valid { address, n, from } => access(m, h, hl, p, pl, s, sl, address, n, from, true, f),
+                            Call::ValidRead { address, n, from } => access(m, h, hl, p, pl, s, sl, address, n, from, false, f),
                             Call::Initialised { address, n } => initialised(m, h, hl, p, pl, s, sl, address, n, f),
                             Call::Next { address } => next(m, h, hl, p, pl, s, sl, address, f),
                             Call::Audit => audit(m, h, hl, p, pl, s, sl, f),
@@ -180,12 +188,11 @@ macro_rules! build {
 build!(
     this,
     "block_monitor_clear",
-    "block_monitor_record",
-    "block_monitor_record_written",
+    "block_monitor_begin",
     "block_monitor_free",
     "block_monitor_written",
     "block_monitor_ask",
-    "block_monitor_valid",
+    "block_monitor_access",
     "block_monitor_initialised",
     "block_monitor_next",
     "block_monitor_audit"
@@ -195,12 +202,11 @@ build!(
 build!(
     before,
     "before_block_monitor_clear",
-    "before_block_monitor_record",
-    "before_block_monitor_record_written",
+    "before_block_monitor_begin",
     "before_block_monitor_free",
     "before_block_monitor_written",
     "before_block_monitor_ask",
-    "before_block_monitor_valid",
+    "before_block_monitor_access",
     "before_block_monitor_initialised",
     "before_block_monitor_next",
     "before_block_monitor_audit"

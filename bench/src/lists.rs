@@ -6,10 +6,12 @@ use model::origins::call::OriginsCall;
 pub enum Calls {
     Asks(Vec<u32>),
     Valids(Vec<(u32, u32, u32)>),
+    ValidReads(Vec<(u32, u32, u32)>),
     Initialised(Vec<(u32, u32)>),
     Written(Vec<(u32, u32)>),
     Records(Vec<(u32, u32)>),
     RecordsWritten(Vec<(u32, u32)>),
+    RecordsLiteral(Vec<(u32, u32)>),
     Frees(Vec<u32>),
     Nexts(Vec<u32>),
     Audits(usize),
@@ -34,14 +36,13 @@ impl Calls {
         let all = calls.iter().copied();
         match calls[0] {
             Call::Ask { .. } => Calls::Asks(all.map(first).collect()),
-            Call::Valid { .. } => Calls::Valids(
-                all.map(|call| (first(call), second(call), third(call)))
-                    .collect(),
-            ),
+            Call::Valid { .. } => Calls::Valids(all.map(three).collect()),
+            Call::ValidRead { .. } => Calls::ValidReads(all.map(three).collect()),
             Call::Initialised { .. } => Calls::Initialised(all.map(both).collect()),
             Call::Written { .. } => Calls::Written(all.map(both).collect()),
             Call::Record { .. } => Calls::Records(all.map(both).collect()),
             Call::RecordWritten { .. } => Calls::RecordsWritten(all.map(both).collect()),
+            Call::RecordLiteral { .. } => Calls::RecordsLiteral(all.map(both).collect()),
             Call::Free { .. } => Calls::Frees(all.map(first).collect()),
             Call::Next { .. } => Calls::Nexts(all.map(first).collect()),
             Call::Audit => Calls::Audits(calls.len()),
@@ -63,6 +64,11 @@ impl Calls {
                     maker.one(Call::Valid { address, n, from });
                 }
             }
+            Calls::ValidReads(list) => {
+                for &(address, n, from) in list {
+                    maker.one(Call::ValidRead { address, n, from });
+                }
+            }
             Calls::Initialised(list) => {
                 for &(address, n) in list {
                     maker.one(Call::Initialised { address, n });
@@ -81,6 +87,11 @@ impl Calls {
             Calls::RecordsWritten(list) => {
                 for &(base, length) in list {
                     maker.one(Call::RecordWritten { base, length });
+                }
+            }
+            Calls::RecordsLiteral(list) => {
+                for &(base, length) in list {
+                    maker.one(Call::RecordLiteral { base, length });
                 }
             }
             Calls::Frees(list) => {
@@ -157,12 +168,12 @@ fn second(call: Call) -> u32 {
     field(call, 1)
 }
 
-fn third(call: Call) -> u32 {
-    field(call, 2)
-}
-
 fn both(call: Call) -> (u32, u32) {
     (first(call), second(call))
+}
+
+fn three(call: Call) -> (u32, u32, u32) {
+    (first(call), second(call), field(call, 2))
 }
 
 /// The sum of the answers, by which all sides are held to have answered the same. Bases are left out: E-ACSL's are other addresses.
@@ -175,7 +186,8 @@ impl Weight {
         let told = match call {
             Call::Ask { .. } => fields[1] + fields[2] + fields[3],
             Call::Next { .. } => fields[1],
-            Call::Valid { .. } | Call::Initialised { .. } | Call::Audit => fields[0],
+            Call::Valid { .. } | Call::ValidRead { .. } => fields[0],
+            Call::Initialised { .. } | Call::Audit => fields[0],
             _ => 0,
         };
         self.0 += (u64::from(number) << 32) + u64::from(told);

@@ -106,9 +106,9 @@ fn touched(map: Map, list: &mut PlainTree, call: Call, parts: &mut Vec<Part>) {
             let (_, start) = place(map, address).expect("a search begins in an area");
             add(start, (found - address) as usize);
         }
-        Call::Record { base, length } | Call::RecordWritten { base, length } => {
-            placed(map, base, length, add)
-        }
+        Call::Record { base, length }
+        | Call::RecordWritten { base, length }
+        | Call::RecordLiteral { base, length } => placed(map, base, length, add),
         Call::Free { base } => placed(
             map,
             base,
@@ -120,7 +120,7 @@ fn touched(map: Map, list: &mut PlainTree, call: Call, parts: &mut Vec<Part>) {
                 add(start, READING);
             }
         }
-        Call::Valid { address, from, .. } => {
+        Call::Valid { address, from, .. } | Call::ValidRead { address, from, .. } => {
             if let Some((_, start)) = place(map, address) {
                 add(
                     start,

@@ -33,8 +33,12 @@ macro_rules! library {
     };
 }
 
+/// How a block begins.
+const UNWRITTEN: u8 = 0;
+const LITERAL: u8 = 2;
+
 library! {
-    block_monitor_origins_begin(base: u32, length: u32, written: bool, counter: *mut u64);
+    block_monitor_origins_begin(base: u32, length: u32, how: u8, counter: *mut u64);
     block_monitor_origins_free(base: u32);
     block_monitor_origins_written(address: u32, n: u32);
     block_monitor_origins_point(cell: u32, address: u32);
@@ -88,7 +92,12 @@ impl Origins {
         }
         match call {
             OriginsCall::Plain(Call::Record { base, length }) => {
-                on_state!(block_monitor_origins_begin(base, length, false, counter))
+                on_state!(block_monitor_origins_begin(
+                    base, length, UNWRITTEN, counter
+                ))
+            }
+            OriginsCall::Plain(Call::RecordLiteral { base, length }) => {
+                on_state!(block_monitor_origins_begin(base, length, LITERAL, counter))
             }
             OriginsCall::Plain(Call::Free { base }) => on_state!(block_monitor_origins_free(base)),
             OriginsCall::Plain(Call::Written { address, n }) => {

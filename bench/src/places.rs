@@ -51,29 +51,41 @@ type Each = fn(u32, u32) -> Call;
 
 const RECORD: Each = |base, length| Call::Record { base, length };
 const RECORD_WRITTEN: Each = |base, length| Call::RecordWritten { base, length };
+const RECORD_LITERAL: Each = |base, length| Call::RecordLiteral { base, length };
 const FREE: Each = |base, _| Call::Free { base };
 const WRITTEN: Each = |address, n| Call::Written { address, n };
 const INITIALISED: Each = |address, n| Call::Initialised { address, n };
 
-/// A case's words and group, and what is made on all blocks before, timed and after.
-struct Way(&'static str, Group, Option<Each>, Each, Option<Each>);
+const BOTH: &[&str] = &["heap", "stack"];
+const STACK: &[&str] = &["stack"];
+
+/// A case's words and group, the areas that have it, and what is made on all blocks before, timed and after.
+struct Way(
+    &'static str,
+    Group,
+    &'static [&'static str],
+    Option<Each>,
+    Each,
+    Option<Each>,
+);
 
 #[rustfmt::skip]
-const WAYS: [Way; 5] = [
-    Way("written of a whole block", Group::Marking, Some(RECORD), WRITTEN, Some(FREE)),
+const WAYS: [Way; 6] = [
+    Way("written of a whole block", Group::Marking, BOTH, Some(RECORD), WRITTEN, Some(FREE)),
     // All bytes are written, so that every mark is looked at.
-    Way("initialised of a whole block", Group::Marking, Some(RECORD_WRITTEN), INITIALISED, Some(FREE)),
-    Way("record", Group::Placing, None, RECORD, Some(FREE)),
-    Way("record_written", Group::Placing, None, RECORD_WRITTEN, Some(FREE)),
-    Way("free", Group::Placing, Some(RECORD), FREE, None),
+    Way("initialised of a whole block", Group::Marking, BOTH, Some(RECORD_WRITTEN), INITIALISED, Some(FREE)),
+    Way("record", Group::Placing, BOTH, None, RECORD, Some(FREE)),
+    Way("record_written", Group::Placing, BOTH, None, RECORD_WRITTEN, Some(FREE)),
+    Way("record_literal", Group::Placing, STACK, None, RECORD_LITERAL, Some(FREE)),
+    Way("free", Group::Placing, BOTH, Some(RECORD), FREE, None),
 ];
 
 /// One case for each way, area and length.
 pub fn cases(state: &State) -> Vec<Case> {
     let rooms = Room::of(state);
     let mut cases = Vec::new();
-    for &Way(words, group, before, timed, after) in &WAYS {
-        for room in &rooms {
+    for &Way(words, group, areas, before, timed, after) in &WAYS {
+        for room in rooms.iter().filter(|room| areas.contains(&room.area)) {
             for length in LENGTHS {
                 let bases = room.bases(length);
                 let each = |call: Each| bases.iter().map(|&base| call(base, length)).collect();
@@ -131,6 +143,29 @@ mod tests {
             step(call);
         }
         assert_eq!(list.listed(), state.list().listed(), "{title}");
+    }
+
+    /// Literals are recorded in the stack alone, where the calls are accepted as those of the other ways are.
+    #[test]
+    fn areas_and_acceptance() {
+        let state = roomy(1);
+        let cases = cases(&state);
+        let count = |words: &str| {
+            let named = |case: &&Case| case.title.starts_with(words);
+            cases.iter().filter(named).count()
+        };
+        assert_eq!(count("record of"), 2 * LENGTHS.len());
+        assert_eq!(count("record_written of"), 2 * LENGTHS.len());
+        assert_eq!(count("record_literal of"), LENGTHS.len());
+        for case in &cases {
+            let mut list = state.list();
+            for &call in [&case.before, &case.timed, &case.after]
+                .into_iter()
+                .flatten()
+            {
+                assert_eq!(list.step(call).number, 0, "{}: {call:?}", case.title);
+            }
+        }
     }
 
     #[test]

@@ -53,7 +53,7 @@ pub fn write_files(folder: &Path, plan: &Plan) {
 fn heap_places(map: Map, calls: impl Iterator<Item = Call>) -> BTreeMap<u32, u32> {
     let mut lengths = BTreeMap::new();
     for call in calls {
-        if let Call::Record { base, length } | Call::RecordWritten { base, length } = call {
+        if let Some((base, length, _)) = call.recording() {
             if map.area(base) == Some(Area::Heap) {
                 let longest = lengths.entry(base).or_insert(0);
                 *longest = length.max(*longest);
@@ -85,16 +85,12 @@ fn moved(map: Map, places: &BTreeMap<u32, u32>, list: &mut PlainTree, call: Call
             }
         }
     };
-    let offset = match call {
-        Call::Record { base, .. } | Call::RecordWritten { base, .. }
-            if map.area(base) == Some(Area::Heap) =>
-        {
-            places[&base]
-        }
+    let offset = match call.recording() {
+        Some((base, ..)) if map.area(base) == Some(Area::Heap) => places[&base],
         _ => offset_of(list, address),
     };
     let from = match call {
-        Call::Valid { from, .. } => offset_of(list, from),
+        Call::Valid { from, .. } | Call::ValidRead { from, .. } => offset_of(list, from),
         _ => 0,
     };
     let n = fields.get(1).copied().unwrap_or(0);

@@ -105,7 +105,11 @@ pub const KINDS: &[Kind] = &[
         fields: &["address", "n", "from"],
         answers: &["same block"],
         told: |f, a| {
-            let said = either(a[0], "yes, in one block:", "no, not in one block:");
+            let said = either(
+                a[0],
+                "yes, in one block that may be written:",
+                "no, not in one block, or in a literal:",
+            );
             format!("{said} {} and {}", range(f[0], f[1]), f[2])
         },
     },
@@ -152,6 +156,29 @@ pub const KINDS: &[Kind] = &[
         told: |f, _| {
             let bytes = count(f[1], "byte");
             format!("recorded: a block at {} of {bytes}, all written", f[0])
+        },
+    },
+    Kind {
+        number: 14,
+        word: "record_literal",
+        fields: &["base", "length"],
+        answers: &[],
+        told: |f, _| {
+            let bytes = count(f[1], "byte");
+            format!(
+                "recorded: a literal at {} of {bytes}, to be read only",
+                f[0]
+            )
+        },
+    },
+    Kind {
+        number: 15,
+        word: "valid_read",
+        fields: &["address", "n", "from"],
+        answers: &["same block"],
+        told: |f, a| {
+            let said = either(a[0], "yes, in one block:", "no, not in one block:");
+            format!("{said} {} and {}", range(f[0], f[1]), f[2])
         },
     },
 ];

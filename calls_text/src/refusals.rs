@@ -7,12 +7,21 @@ pub const REFUSALS: &[(u32, &[&str], &str)] = &[
     (1, &["map"], "the map breaks a rule; the one before stays"),
     (1, &[], "no good map yet"),
     (2, &[], "a shadow's length differs from its area's"),
-    (3, &["record", "record_written"], "the length is 0"),
+    (
+        3,
+        &["record", "record_written", "record_literal"],
+        "the length is 0",
+    ),
     (3, &[], "n is 0"),
     (
         4,
         &["record", "record_written"],
         "base in neither area, or the block or its header does not fit there",
+    ),
+    (
+        4,
+        &["record_literal"],
+        "base outside the stack area, or the block does not fit there",
     ),
     (
         4,
@@ -46,8 +55,13 @@ pub const REFUSALS: &[(u32, &[&str], &str)] = &[
     ),
     (
         12,
-        &["record", "record_written"],
+        &["record", "record_written", "record_literal"],
         "the counter is outside 1 to 4294967295: no origin is left",
+    ),
+    (
+        13,
+        &["written"],
+        "the bytes are those of a literal, which may only be read",
     ),
 ];
 

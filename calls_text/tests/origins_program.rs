@@ -40,7 +40,11 @@ fn stored_examples() {
 /// Inputs with the output that the specification gives for them.
 #[test]
 fn stated_examples() {
-    for (name, least) in [("origins-open-points.txt", 6), ("origins.txt", 20)] {
+    for (name, least) in [
+        ("origins-open-points.txt", 7),
+        ("origins.txt", 20),
+        ("literals-origins.txt", 24),
+    ] {
         let text = String::from_utf8(bytes(&format!("model/tests/data/{name}"))).expect("text");
         let mut runs = 0;
         for line in text.lines() {
@@ -56,7 +60,7 @@ fn stated_examples() {
 /// Calls of the plain form alone: their lines are the plain program's, as long as every base is a multiple of 4.
 #[test]
 fn plain_examples() {
-    for name in ["worked", "statics", "each-kind"] {
+    for name in ["worked", "statics", "each-kind", "literals"] {
         as_the_model(FORM, name, &example(name));
     }
     for name in ["sha1", "sorts"] {

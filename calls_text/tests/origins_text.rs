@@ -13,7 +13,7 @@ fn errors(text: &str) -> String {
 
 #[test]
 fn words_of_the_form_with_origins() {
-    let text = "# remark\n\n  origins  # the form\nmap 1 2 3 4\npoint 5 6\ncopy 7 8\nlive 9 0xa\nrecord 11 12\n";
+    let text = "# remark\n\n  origins  # the form\nmap 1 2 3 4\npoint 5 6\ncopy 7 8\nlive 9 0xa\nrecord 11 12\nrecord_literal 13 14\nvalid_read 15 16 17\n";
     let read = parsed("x", text);
     assert_eq!(read.form, Form::Origins);
     let records = [
@@ -22,6 +22,8 @@ fn words_of_the_form_with_origins() {
         encode(12, &[7, 8]),
         encode(13, &[9, 10]),
         encode(2, &[11, 12]),
+        encode(14, &[13, 14]),
+        encode(15, &[15, 16, 17]),
     ];
     assert_eq!(read.file, records.concat());
     let alone = parsed("x", "origins");
@@ -49,7 +51,7 @@ fn the_form_is_said_first() {
         errors("origins\nlive 8192 x"),
         "x.txt:2: live, address: `x` is no number (decimal, or hexadecimal after 0x)"
     );
-    let words = "map, record, free, written, ask, valid, initialised, next, audit, record_written, point, copy, live, raw";
+    let words = "map, record, free, written, ask, valid, initialised, next, audit, record_written, record_literal, valid_read, point, copy, live, raw";
     assert_eq!(
         errors("origins\npiont 1 2"),
         format!("x.txt:2: unknown word `piont`; the words are {words}")
@@ -67,7 +69,7 @@ fn kinds_of_the_other_form_do_not_decode() {
         assert_eq!(written, format!("origins\n{} 1 2\n", kind.word));
         assert_eq!(none, None);
     }
-    let (written, stop) = text(Form::Origins, &encode(14, &[1, 2]));
-    assert_eq!(stop.expect("no kind").why, "kind 14 is unknown");
+    let (written, stop) = text(Form::Origins, &encode(16, &[1]));
+    assert_eq!(stop.expect("no kind").why, "kind 16 is unknown");
     assert!(written.starts_with("origins\n# record 1 at byte 0 does not decode"));
 }

@@ -39,6 +39,8 @@ fn stated_examples() {
         ("open-points.txt", 16),
         ("record-written.txt", 16),
         ("free-null.txt", 21),
+        ("literals-open-points.txt", 4),
+        ("literals.txt", 24),
     ] {
         let text = String::from_utf8(bytes(&format!("model/tests/data/{name}"))).expect("text");
         let mut runs = 0;

@@ -4,22 +4,9 @@ mod common;
 
 use calls_text::kinds::{Form, KINDS, ORIGINS_KINDS};
 use calls_text::refusals::refusal;
-use calls_text::show::{show, Shown};
-use calls_text::text::{parse, Parsed};
-use common::{bytes, examples};
-
-fn shown(text: &str, output: &str) -> Shown {
-    show(&parse("x", text).expect("text"), output)
-}
-
-/// The meaning of one line as the line of one record.
-fn meaning(record: &str, line: &str) -> String {
-    let shown = shown(record, line);
-    assert_eq!(shown.wrong, 0, "{}", shown.text);
-    let row = shown.text.lines().nth(1).expect("a row");
-    let (_, meaning) = row.split_once(&format!("  {line}  ")).expect("the line");
-    meaning.trim().to_owned()
-}
+use calls_text::show::show;
+use calls_text::text::Parsed;
+use common::{bytes, examples, meaning, shown};
 
 #[test]
 fn accepted_lines() {
@@ -50,11 +37,11 @@ fn accepted_lines() {
     );
     assert_eq!(
         meaning("valid 8200 6 8195", "6 0 1"),
-        "yes, in one block: 8200 to 8205 and 8195"
+        "yes, in one block that may be written: 8200 to 8205 and 8195"
     );
     assert_eq!(
         meaning("valid 8193 4294967295 1", "6 0 0"),
-        "no, not in one block: 8193 to 4294975487 and 1"
+        "no, not in one block, or in a literal: 8193 to 4294975487 and 1"
     );
     assert_eq!(
         meaning("initialised 5 2", "7 0 1"),
@@ -146,6 +133,10 @@ fn lines_that_cannot_be_right() {
         ("ask 1", "5 7\n5 7\n"),
         ("record_written 8192 3", "2 0\n"),
         ("record_written 8192 3", "10 0 1\n"),
+        ("record_literal 8192 3", "10 0\n"),
+        ("record_literal 8192 3", "14 0 1\n"),
+        ("valid_read 8192 3 8192", "6 0 1\n"),
+        ("valid_read 8192 3 8192", "15 0\n"),
         ("", "9\n"),
         ("raw 00", ""),
         ("raw 00", "9 1\n"),
@@ -215,7 +206,7 @@ fn words_and_numbers_are_told_apart() {
         };
         assert_eq!(Form::Origins.kinds().filter(same).count(), 1, "row {place}");
     }
-    assert_eq!(KINDS.len() + ORIGINS_KINDS.len(), 13);
+    assert_eq!(KINDS.len() + ORIGINS_KINDS.len(), 15);
 }
 
 #[test]
@@ -276,6 +267,21 @@ fn lines_of_the_form_with_origins() {
             "record_written 8192 1",
             "10 12",
             "refused by 12: the counter is outside 1 to 4294967295: no origin is left",
+        ),
+        (
+            "record_literal 8193 1",
+            "14 5",
+            "refused by 5: a base must be a multiple of 4, a heap base of 8",
+        ),
+        (
+            "record_literal 8192 1",
+            "14 12",
+            "refused by 12: the counter is outside 1 to 4294967295: no origin is left",
+        ),
+        (
+            "valid_read 8192 2 8193",
+            "15 0 1",
+            "yes, in one block: 8192 to 8193 and 8193",
         ),
     ] {
         assert_eq!(meaning(&format!("origins\n{record}"), line), said);

@@ -1,6 +1,8 @@
 /* The allocators know nothing of the monitor: with the checks taken out, the lesson runs as it is. */
 #include "areas.h"
 
+#include <string.h>
+
 /* Objects of the lesson are made of characters and 32-bit numbers, so each may lie in such an area. The first member aligns it. */
 static union {
     uint64_t alignment;
@@ -160,4 +162,13 @@ void *static_object(uint32_t length)
         return NULL;
     statics = place;
     return &stack.bytes[place];
+}
+
+/* The compiler has put literals elsewhere. On the chip they are there when the program starts, so that this is no write of the program's. */
+char *string_literal(const char *text)
+{
+    uint32_t length = (uint32_t)strlen(text) + 1;
+    char *literal = static_object(length);
+
+    return literal == NULL ? NULL : memcpy(literal, text, length);
 }

@@ -50,4 +50,7 @@ void stack_pop(const void *pointer);
 /* Static objects, before any automatic one: zeroed bytes at the end of the stack area, from a multiple of 4 on. NULL if there is no room. */
 void *static_object(uint32_t length);
 
+/* A string literal, which lies with the static objects: the text with its final zero. NULL if there is no room. */
+char *string_literal(const char *text);
+
 #endif

@@ -80,21 +80,19 @@ static void stop_refused(uint32_t number)
     stop();
 }
 
-/* Stops unless one block holds from and all n bytes. */
-static void must_be_valid(const char *what, uint32_t address, uint32_t n, uint32_t from, struct place where)
+/* Stops a use that is not valid, with the number of valid or valid_read. Where the bytes may be read, it was a write into a literal. */
+static void stop_invalid(const char *what, uint32_t number, uint32_t address, uint32_t n, uint32_t from, struct place where)
 {
-    uint32_t valid, first_valid;
-    uint32_t number = FORM(valid)(&monitor, address, n, from, &valid);
+    uint32_t readable, first_readable;
 
-    if (valid)
-        return;
     print_use(what, n, address, where);
     if (number != BLOCK_MONITOR_ACCEPTED)
         stop_refused(number);
-    FORM(valid)(&monitor, address, 1, from, &first_valid);
-    printf(first_valid ? "runs past the end of " : "pointer into ");
+    FORM(valid_read)(&monitor, address, n, from, &readable);
+    FORM(valid_read)(&monitor, address, 1, from, &first_readable);
+    printf(readable ? "a literal may only be read, " : first_readable ? "runs past the end of " : "pointer into ");
     print_block(from);
-    if (!first_valid && address != from) {
+    if (!first_readable && address != from) {
         printf(", address in ");
         print_block(address);
     }
@@ -134,6 +132,13 @@ void check_static(const void *pointer, uint32_t length, struct place where)
     must_be_recorded(FORM(record_written)(&monitor, base, length), base, length, where);
 }
 
+void check_literal(const void *pointer, uint32_t length, struct place where)
+{
+    uint32_t base = address_of(pointer);
+
+    must_be_recorded(FORM(record_literal)(&monitor, base, length), base, length, where);
+}
+
 void check_free(const char *what, const void *pointer, struct place where)
 {
     uint32_t address = address_of(pointer);
@@ -162,9 +167,11 @@ void check_free(const char *what, const void *pointer, struct place where)
 void check_read(const void *pointer, uint32_t n, const void *from, struct place where)
 {
     uint32_t address = address_of(pointer);
-    uint32_t number, written;
+    uint32_t valid, written;
+    uint32_t number = FORM(valid_read)(&monitor, address, n, address_of(from), &valid);
 
-    must_be_valid("read", address, n, address_of(from), where);
+    if (!valid)
+        stop_invalid("read", number, address, n, address_of(from), where);
     number = FORM(initialised)(&monitor, address, n, &written);
     if (written)
         return;
@@ -179,9 +186,11 @@ void check_read(const void *pointer, uint32_t n, const void *from, struct place 
 void check_write(const void *pointer, uint32_t n, const void *from, struct place where)
 {
     uint32_t address = address_of(pointer);
-    uint32_t number;
+    uint32_t valid;
+    uint32_t number = FORM(valid)(&monitor, address, n, address_of(from), &valid);
 
-    must_be_valid("write", address, n, address_of(from), where);
+    if (!valid)
+        stop_invalid("write", number, address, n, address_of(from), where);
     number = FORM(written)(&monitor, address, n);
     if (number == BLOCK_MONITOR_ACCEPTED)
         return;

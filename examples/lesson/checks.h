@@ -25,16 +25,19 @@ struct place {
 /* Before a static object is first used: C has zeroed it, so that it may be read at once. */
 #define CHECK_STATIC(pointer, length) check_static(pointer, length, HERE)
 
+/* Before a string literal is first used: it may be read at once, and never written to. */
+#define CHECK_LITERAL(pointer, length) check_literal(pointer, length, HERE)
+
 /* Before a heap block is given back; a pointer that is NULL passes, as it does with C's free. */
 #define CHECK_FREE(pointer) check_free("release", pointer, HERE)
 
-/* Where an automatic object ends; for a static one, at the end of the program. For the monitor it is the same call. */
+/* Where an automatic object ends; for a static one and a literal, at the end of the program. For the monitor it is the same call. */
 #define CHECK_LEAVE(pointer) check_free("end", pointer, HERE)
 
 /* Before a read of n bytes. */
 #define CHECK_READ(pointer, n, from) check_read(pointer, n, from, HERE)
 
-/* Before a write of n bytes, which count as written from then on. */
+/* Before a write of n bytes, which count as written from then on. They must not be a literal's. */
 #define CHECK_WRITE(pointer, n, from) check_write(pointer, n, from, HERE)
 
 /*
@@ -50,6 +53,7 @@ struct place {
 void check_start(struct place where);
 void check_record(const void *pointer, uint32_t length, struct place where);
 void check_static(const void *pointer, uint32_t length, struct place where);
+void check_literal(const void *pointer, uint32_t length, struct place where);
 void check_free(const char *what, const void *pointer, struct place where);
 void check_read(const void *pointer, uint32_t n, const void *from, struct place where);
 void check_write(const void *pointer, uint32_t n, const void *from, struct place where);

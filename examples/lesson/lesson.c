@@ -1,7 +1,7 @@
 /*
  * A vocabulary exercise on lent memory, with a check at every allocation, release and pointer use.
  *
- * Built with -DMISTAKE=n it has one mistake, n from 1 to 8; without, it has none. Each place says which.
+ * Built with -DMISTAKE=n it has one mistake, n from 1 to 9; without, it has none. Each place says which.
  */
 #include <inttypes.h>
 #include <stdio.h>
@@ -16,7 +16,7 @@
 
 enum { WORDS = 3, TRIES = 2, LETTERS = 8 };
 
-/* The course's own data. Constants lie outside the areas: no check for them. */
+/* The course's own data. These constants lie outside the areas: no check for them. */
 static const struct word {
     const char *prompt;
     const char *solution;
@@ -38,6 +38,17 @@ struct answer {
 
 /* How many letters the learner has typed. A static object: zero before anything is written to it. */
 static uint32_t *letters_typed;
+
+/* String literals of the program, in the stack area. As in C, their type does not say that they may only be read. */
+static char *to_word, *right_word, *wrong_word;
+
+static char *new_literal(const char *text)
+{
+    char *literal = string_literal(text);
+
+    CHECK_LITERAL(literal, (uint32_t)strlen(text) + 1);
+    return literal;
+}
 
 /* A text of the course, on the heap; NULL where the course has none. */
 static char *new_text(const char *constant)
@@ -109,15 +120,16 @@ static uint32_t same_text(const char *a, const char *b)
 /* The part that the learner has to type: a verb without its "to". */
 static char *stem_of(char *text)
 {
-    const char *to = "to ";
     uint32_t i;
 
-    for (i = 0; to[i] != 0; i++) {
+    for (i = 0;; i++) {
+        CHECK_READ(&to_word[i], 1, to_word);
+        if (to_word[i] == 0)
+            return &text[i];
         CHECK_READ(&text[i], 1, text);
-        if (text[i] != to[i])
+        if (text[i] != to_word[i])
             return text;
     }
-    return &text[i];
 }
 
 static void count_letters(uint32_t count)
@@ -157,21 +169,36 @@ static void start_answer(struct answer *answer, uint32_t word, const char *hint)
     CHECK_KEEP(&answer->hint, hint);
 }
 
+static const char *verdict_of(uint32_t right)
+{
+    char *verdict = right ? right_word : wrong_word;
+
+    if (MISTAKE == 9 && right) { /* 9: a capital letter goes into the literal itself */
+        CHECK_WRITE(verdict, 1, verdict);
+        verdict[0] = 'R';
+    }
+    return verdict;
+}
+
 /* One try: 1 if there is to be another. */
 static int try_word(struct answer *answer, const char *prompt, const char *stem, char *typed)
 {
     uint32_t tries, right;
+    const char *verdict;
 
     CHECK_READ(&answer->tries, sizeof answer->tries, answer);
     tries = answer->tries;
     CHECK_READ(&answer->word, sizeof answer->word, answer);
     type_in(typed, words[answer->word].typed[tries]);
     right = same_text(typed, stem);
+    verdict = verdict_of(right);
     tries++;
     print_text(prompt);
     printf(" = ");
     print_text(typed);
-    printf(": %s\n", right ? "right" : "wrong");
+    printf(": ");
+    print_text(verdict);
+    printf("\n");
     CHECK_WRITE(&answer->tries, sizeof answer->tries, answer);
     answer->tries = tries;
     CHECK_WRITE(&answer->right, sizeof answer->right, answer);
@@ -265,6 +292,9 @@ int main(void)
     CHECK_START();
     letters_typed = static_object(sizeof *letters_typed);
     CHECK_STATIC(letters_typed, sizeof *letters_typed);
+    to_word = new_literal("to ");
+    right_word = new_literal("right");
+    wrong_word = new_literal("wrong");
     points = new_numbers(WORDS);
     tries = new_numbers(WORDS);
     for (word = 0; word < WORDS; word++)
@@ -274,6 +304,9 @@ int main(void)
     heap_release(tries);
     CHECK_FREE(points);
     heap_release(points);
+    CHECK_LEAVE(wrong_word);
+    CHECK_LEAVE(right_word);
+    CHECK_LEAVE(to_word);
     CHECK_LEAVE(letters_typed);
     CHECK_END();
     return 0;

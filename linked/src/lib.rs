@@ -17,7 +17,7 @@ extern "C" {
         sl: usize,
         f: *mut Four,
     ) -> u32;
-    fn block_monitor_record(
+    fn block_monitor_begin(
         map: *const Four,
         h: *mut u8,
         hl: usize,
@@ -27,18 +27,7 @@ extern "C" {
         sl: usize,
         base: u32,
         length: u32,
-        f: *mut Four,
-    ) -> u32;
-    fn block_monitor_record_written(
-        map: *const Four,
-        h: *mut u8,
-        hl: usize,
-        p: *mut u8,
-        pl: usize,
-        s: *mut u8,
-        sl: usize,
-        base: u32,
-        length: u32,
+        how: u8,
         f: *mut Four,
     ) -> u32;
     fn block_monitor_free(
@@ -75,7 +64,7 @@ extern "C" {
         a: u32,
         f: *mut Four,
     ) -> u32;
-    fn block_monitor_valid(
+    fn block_monitor_access(
         map: *const Four,
         h: *const u8,
         hl: usize,
@@ -86,6 +75,7 @@ extern "C" {
         a: u32,
         n: u32,
         from: u32,
+        write: bool,
         f: *mut Four,
     ) -> u32;
     fn block_monitor_initialised(
@@ -123,6 +113,11 @@ extern "C" {
     ) -> u32;
 }
 
+/// How a block begins: unwritten, written, or, by any other number, as a literal.
+const UNWRITTEN: u8 = 0;
+const WRITTEN: u8 = 1;
+const LITERAL: u8 = 2;
+
 /// One call of the proved library on lent shadows.
 pub fn call(
     map: Map,
@@ -148,10 +143,13 @@ pub fn call(
         match call {
             Call::Clear => block_monitor_clear(m, h, hl, p, pl, s, sl, f),
             Call::Record { base, length } => {
-                block_monitor_record(m, h, hl, p, pl, s, sl, base, length, f)
+                block_monitor_begin(m, h, hl, p, pl, s, sl, base, length, UNWRITTEN, f)
             }
             Call::RecordWritten { base, length } => {
-                block_monitor_record_written(m, h, hl, p, pl, s, sl, base, length, f)
+                block_monitor_begin(m, h, hl, p, pl, s, sl, base, length, WRITTEN, f)
+            }
+            Call::RecordLiteral { base, length } => {
+                block_monitor_begin(m, h, hl, p, pl, s, sl, base, length, LITERAL, f)
             }
             Call::Free { base } => block_monitor_free(m, h, hl, p, pl, s, sl, base, f),
             Call::Written { address, n } => {
@@ -159,7 +157,10 @@ pub fn call(
             }
             Call::Ask { address } => block_monitor_ask(m, h, hl, p, pl, s, sl, address, f),
             Call::Valid { address, n, from } => {
-                block_monitor_valid(m, h, hl, p, pl, s, sl, address, n, from, f)
+                block_monitor_access(m, h, hl, p, pl, s, sl, address, n, from, true, f)
+            }
+            Call::ValidRead { address, n, from } => {
+                block_monitor_access(m, h, hl, p, pl, s, sl, address, n, from, false, f)
             }
             Call::Initialised { address, n } => {
                 block_monitor_initialised(m, h, hl, p, pl, s, sl, address, n, f)

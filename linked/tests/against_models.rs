@@ -4,9 +4,9 @@ mod common;
 
 use common::agreed;
 use linked::call;
+use model::call::Call;
 use model::generate::{self, shadows, Scale};
 use model::image::{image, Shadows};
-use model::map::Map;
 use model::plain::{List, PlainList};
 use model::random::Random;
 
@@ -56,25 +56,52 @@ fn runs_at_full_size() {
     }
 }
 
-/// One call on any bytes against the byte-level model.
-fn once(random: &mut Random, map: Map, mut lent: Shadows) {
-    let one = generate::call(random, map, &[]);
-    agreed(map, &mut lent, one);
-}
+/// Which numbers the calls on any bytes gave, and how often.
+type Met = [u32; 14];
 
 #[test]
 fn calls_on_damaged_and_random_bytes() {
-    println!("seeds 0 to {}", 60_000 * times());
-    for seed in 0..60_000 * times() {
+    println!("seeds 0 to {}", 80_000 * times());
+    let mut met = Met::default();
+    for seed in 0..80_000 * times() {
         let mut random = Random::new(seed);
         let map = generate::map(&mut random, Scale::Crowded);
-        let lent = if random.once_in(3) {
-            shadows::noise(&mut random, map)
-        } else {
-            shadows::damaged(&mut random, map, 1 + seed % 6)
-        };
-        once(&mut random, map, lent);
+        let (mut lent, one) = shadows::any(&mut random, map);
+        let said = agreed(map, &mut lent, one);
+        met[said.number as usize] += 1;
     }
+    for number in [0, 3, 4, 5, 6, 7, 8, 13] {
+        assert!(met[number] > 100, "{number}: {}", met[number]);
+    }
+}
+
+/// The same ranges asked of both, and written, where the marks of a block may be mixed.
+#[test]
+fn ranges_under_mixed_marks() {
+    let mut told_apart = 0;
+    for seed in 0..20_000 * times() {
+        let mut random = Random::new(seed);
+        let map = generate::map(&mut random, Scale::Crowded);
+        let bytes = shadows::damaged(&mut random, map, 1 + seed % 3);
+        let blocks = shadows::read_blocks(map, &bytes);
+        if blocks.is_empty() {
+            continue;
+        }
+        for _ in 0..6 {
+            let (address, n, from) = match generate::inside(&mut random, &blocks) {
+                Call::Valid { address, n, from } | Call::ValidRead { address, n, from } => {
+                    (address, n, from)
+                }
+                _ => continue,
+            };
+            let said = |one| agreed(map, &mut bytes.clone(), one);
+            let valid = said(Call::Valid { address, n, from });
+            let readable = said(Call::ValidRead { address, n, from });
+            said(Call::Written { address, n });
+            told_apart += u32::from(valid != readable);
+        }
+    }
+    assert!(told_apart > 1000, "{told_apart}");
 }
 
 #[test]
@@ -97,6 +124,7 @@ fn bad_maps_and_wrong_lengths() {
         shorter(&mut lent.heap, &mut random);
         shorter(&mut lent.primary, &mut random);
         shorter(&mut lent.secondary, &mut random);
-        once(&mut random, map, lent);
+        let one = generate::call(&mut random, map, &[]);
+        agreed(map, &mut lent, one);
     }
 }

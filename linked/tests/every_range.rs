@@ -1,8 +1,10 @@
-//! Marks and tests of every range of a block, whatever was marked before: the proved library against the models, byte by byte.
+//! Marks and tests of every range of a block, whatever was marked before, and of a literal: the proved library against the models, byte by
+//! byte.
 
 mod common;
 
 use common::agreed;
+use model::block::Beginning;
 use model::call::Call;
 use model::image::image;
 use model::map::Map;
@@ -38,9 +40,12 @@ fn marked(blocks: &[(u32, u32)], pattern: u64) -> PlainList {
 fn every_range(list: &PlainList, base: u32, length: u32) {
     for address in base..base + length {
         for n in 1..=base + length - address + 1 {
+            let from = base + length - 1;
             for one in [
                 Call::Written { address, n },
                 Call::Initialised { address, n },
+                Call::Valid { address, n, from },
+                Call::ValidRead { address, n, from },
             ] {
                 let mut list = list.clone();
                 let mut lent = image(MAP, list.blocks());
@@ -74,6 +79,26 @@ fn of_stack_blocks() {
     for length in [1, 4, 5, 8, 9, 15, 16, 33, 40, 43] {
         for base in [8197, 8200] {
             of_the_second(&[(base - 1, 1), (base, length), (base + length, 5)]);
+        }
+    }
+}
+
+/// No range of a literal can be written; the blocks beside it are none, or all of them are.
+#[test]
+fn of_literals() {
+    for length in [1, 4, 5, 8, 9, 15, 16, 33, 40, 43] {
+        for base in [8197, 8200] {
+            let (before, after) = ((base - 1, 1), (base + length, 5));
+            for beside in [Beginning::Unwritten, Beginning::Literal] {
+                let mut list = PlainList::new(MAP);
+                let literal = Call::to_begin(Beginning::Literal, base, length);
+                let others =
+                    [before, after].map(|(base, length)| Call::to_begin(beside, base, length));
+                for one in [others[0], literal, others[1]] {
+                    assert_eq!(list.step(one).number, 0);
+                }
+                every_range(&list, base, length);
+            }
         }
     }
 }

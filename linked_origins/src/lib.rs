@@ -34,11 +34,11 @@ macro_rules! library {
 
 library! {
     block_monitor_origins_clear();
-    block_monitor_origins_begin(base: u32, length: u32, written: bool, counter: *mut u64);
+    block_monitor_origins_begin(base: u32, length: u32, how: u8, counter: *mut u64);
     block_monitor_origins_free(base: u32);
     block_monitor_origins_written(address: u32, n: u32);
     block_monitor_origins_ask(address: u32);
-    block_monitor_origins_valid(address: u32, n: u32, from: u32);
+    block_monitor_origins_access(address: u32, n: u32, from: u32, write: bool);
     block_monitor_origins_initialised(address: u32, n: u32);
     block_monitor_origins_next(address: u32);
     block_monitor_origins_audit();
@@ -47,8 +47,18 @@ library! {
     block_monitor_origins_live(cell: u32, address: u32);
 }
 
+/// How a block begins: unwritten, written, or, by any other number, as a literal.
+const UNWRITTEN: u8 = 0;
+const WRITTEN: u8 = 1;
+const LITERAL: u8 = 2;
+
 /// One call of the proved library on lent state.
 pub fn call(map: Map, state: &mut State, call: OriginsCall) -> Answer {
+    call_for_literal(LITERAL, map, state, call)
+}
+
+/// The same, where a literal is asked for by this number, which is neither 0 nor 1.
+pub fn call_for_literal(literal: u8, map: Map, state: &mut State, call: OriginsCall) -> Answer {
     let four = [
         map.heap_start,
         map.heap_size,
@@ -84,10 +94,15 @@ pub fn call(map: Map, state: &mut State, call: OriginsCall) -> Answer {
     let number = match call {
         OriginsCall::Plain(Call::Clear) => on_state!(block_monitor_origins_clear()),
         OriginsCall::Plain(Call::Record { base, length }) => {
-            on_state!(block_monitor_origins_begin(base, length, false, counter))
+            on_state!(block_monitor_origins_begin(
+                base, length, UNWRITTEN, counter
+            ))
         }
         OriginsCall::Plain(Call::RecordWritten { base, length }) => {
-            on_state!(block_monitor_origins_begin(base, length, true, counter))
+            on_state!(block_monitor_origins_begin(base, length, WRITTEN, counter))
+        }
+        OriginsCall::Plain(Call::RecordLiteral { base, length }) => {
+            on_state!(block_monitor_origins_begin(base, length, literal, counter))
         }
         OriginsCall::Plain(Call::Free { base }) => on_state!(block_monitor_origins_free(base)),
         OriginsCall::Plain(Call::Written { address, n }) => {
@@ -95,7 +110,10 @@ pub fn call(map: Map, state: &mut State, call: OriginsCall) -> Answer {
         }
         OriginsCall::Plain(Call::Ask { address }) => on_state!(block_monitor_origins_ask(address)),
         OriginsCall::Plain(Call::Valid { address, n, from }) => {
-            on_state!(block_monitor_origins_valid(address, n, from))
+            on_state!(block_monitor_origins_access(address, n, from, true))
+        }
+        OriginsCall::Plain(Call::ValidRead { address, n, from }) => {
+            on_state!(block_monitor_origins_access(address, n, from, false))
         }
         OriginsCall::Plain(Call::Initialised { address, n }) => {
             on_state!(block_monitor_origins_initialised(address, n))

@@ -2,7 +2,7 @@
 //! `MONITOR_CALLS` multiplies the number of calls.
 #![cfg(library)]
 
-use linked_origins::call;
+use linked_origins::{call, call_for_literal};
 use model::call::{refusal, Answer, Call};
 use model::generate::{self, Scale};
 use model::map::Map;
@@ -97,13 +97,13 @@ fn any(random: &mut Random) -> (Map, State, OriginsCall) {
 #[test]
 fn calls_on_damaged_and_random_states() {
     println!("seeds 0 to {}", 80_000 * times());
-    let mut met = [0; 13];
+    let mut met = [0; 14];
     for seed in 0..80_000 * times() {
         let (map, mut lent, one) = any(&mut Random::new(seed));
         let answer = agreed(map, &mut lent, one);
         met[answer.number as usize] += 1;
     }
-    for number in [0, 3, 4, 5, 6, 7, 8, 11, 12] {
+    for number in [0, 3, 4, 5, 6, 7, 8, 11, 12, 13] {
         assert!(met[number] > 100, "{number}: {}", met[number]);
     }
 }
@@ -136,19 +136,39 @@ fn counters_at_their_ends() {
         let one = generate::record(&mut random, map, &[]);
         let answer = agreed(map, &mut lent, OriginsCall::Plain(one));
         used_up += u32::from(answer.number == refusal::USED_UP);
-        assert!(matches!(
-            one,
-            Call::Record { .. } | Call::RecordWritten { .. }
-        ));
+        assert!(one.recording().is_some());
     }
     assert!(used_up > 100, "{used_up}");
+}
+
+/// Every number but 0 and 1 asks for a literal.
+#[test]
+fn every_way_to_ask_for_a_literal() {
+    let mut accepted = 0;
+    for how in 2..=u8::MAX {
+        for seed in 0..20 * times() {
+            let mut random = Random::new(1000 * u64::from(how) + seed);
+            let (map, state, _) = any(&mut random);
+            let base = map.stack_start + 4 * random.between(0, map.stack_size / 4 - 1);
+            let length = random.between(1, 12);
+            let one = OriginsCall::Plain(Call::RecordLiteral { base, length });
+            let (mut lent, mut other) = (state.clone(), state);
+            let said = call_for_literal(how, map, &mut lent, one);
+            assert_eq!(said, bytes::call(map, &mut other, one), "{how} {map:?}");
+            assert!(lent == other, "{how} {map:?} {one:?}");
+            accepted += u32::from(said.number == 0);
+        }
+    }
+    assert!(accepted > 300, "{accepted}");
 }
 
 /// The samples of the model's data, on the library itself.
 #[test]
 fn stated_samples() {
     let mut samples = 0;
-    for line in include_str!("../../model/tests/data/origins.txt").lines() {
+    let lines = include_str!("../../model/tests/data/origins.txt").lines();
+    let literals = include_str!("../../model/tests/data/literals-origins.txt").lines();
+    for line in lines.chain(literals) {
         let Some(Example::On(told)) = example(line) else {
             continue;
         };
@@ -160,5 +180,5 @@ fn stated_samples() {
         assert!(lent == stated, "{line}");
         samples += 1;
     }
-    assert!(samples > 250, "{samples}");
+    assert!(samples > 500, "{samples}");
 }

@@ -5,21 +5,32 @@ use std::ops::Range;
 use crate::call::refusal;
 use crate::map::{Area, Map, SEGMENT};
 
-/// A block with one written mark for each of its bytes.
+/// A block with one written mark for each of its bytes. A literal lies in the
+/// stack area and may only be read, so all of its bytes stay written.
 #[derive(Clone, Debug, PartialEq, Eq)]
 pub struct Block {
     pub base: u32,
     pub length: u32,
     pub written: Vec<bool>,
+    pub literal: bool,
+}
+
+/// The three ways a block begins, one for each call that records.
+#[derive(Clone, Copy, Debug, PartialEq, Eq)]
+pub enum Beginning {
+    Unwritten,
+    Written,
+    Literal,
 }
 
 impl Block {
     /// A block as it begins: all of its bytes are written, or none is.
-    pub fn begun(base: u32, length: u32, written: bool) -> Self {
+    pub fn begun(base: u32, length: u32, beginning: Beginning) -> Self {
         Block {
             base,
             length,
-            written: vec![written; length as usize],
+            written: vec![beginning != Beginning::Unwritten; length as usize],
+            literal: beginning == Beginning::Literal,
         }
     }
 
@@ -74,6 +85,18 @@ pub fn placement(map: Map, base: u32, length: u32) -> Result<Area, u32> {
         return Err(refusal::UNALIGNED);
     }
     Ok(area)
+}
+
+/// The same for a block that begins in this way: a literal has its place in the
+/// stack area alone, so that no heap base gets 5 (S5.4).
+pub fn placement_as(beginning: Beginning, map: Map, base: u32, length: u32) -> Result<Area, u32> {
+    match placement(map, base, length) {
+        Err(refusal::ZERO) => Err(refusal::ZERO),
+        _ if beginning == Beginning::Literal && map.area(base) != Some(Area::Stack) => {
+            Err(refusal::OUTSIDE)
+        }
+        placed => placed,
+    }
 }
 
 /// Whether two footprints share a byte.

@@ -4,13 +4,13 @@
 
 use std::ops::Range;
 
-use crate::block::{footprint, placement};
+use crate::block::{footprint, placement_as, Beginning};
 use crate::call::{refusal, Answer, Call, Outcome, NO_FIELDS};
 use crate::decode::decode;
 use crate::image::{stack_code, EIGHT, LONGEST_SHORT};
 use crate::map::{Area, Map, NULL};
-use crate::plain::{not_zero, totals};
-use crate::reading::{Reading, View};
+use crate::plain::{not_literal, not_zero, totals};
+use crate::reading::{Found, Reading, View};
 
 /// One call on lent shadows.
 pub fn call(
@@ -41,12 +41,14 @@ impl Lent<'_> {
         self.check()?;
         match call {
             Call::Clear => Ok(self.clear()),
-            Call::Record { base, length } => self.record(base, length, false),
-            Call::RecordWritten { base, length } => self.record(base, length, true),
+            Call::Record { base, length } => self.record(base, length, Beginning::Unwritten),
+            Call::RecordWritten { base, length } => self.record(base, length, Beginning::Written),
+            Call::RecordLiteral { base, length } => self.record(base, length, Beginning::Literal),
             Call::Free { base } => self.free(base),
             Call::Written { address, n } => self.written(address, n),
             Call::Ask { address } => self.ask(address),
             Call::Valid { address, n, from } => self.valid(address, n, from),
+            Call::ValidRead { address, n, from } => self.valid_read(address, n, from),
             Call::Initialised { address, n } => self.initialised(address, n),
             Call::Next { address } => self.next(address),
             Call::Audit => self.audit(),
@@ -85,9 +87,9 @@ impl Lent<'_> {
         NO_FIELDS
     }
 
-    /// Both ways to record: a block's bytes begin all written, or none is.
-    fn record(&mut self, base: u32, length: u32, written: bool) -> Outcome {
-        let area = placement(self.map, base, length)?;
+    /// The three ways to record.
+    fn record(&mut self, base: u32, length: u32, beginning: Beginning) -> Outcome {
+        let area = placement_as(beginning, self.map, base, length)?;
         let place = self.place(area, base, length);
         let zero = |shadow: &[u8]| shadow[place.clone()].iter().all(|&byte| byte == 0);
         let free = match area {
@@ -98,8 +100,8 @@ impl Lent<'_> {
             return Err(refusal::TAKEN);
         }
         match area {
-            Area::Heap => self.record_heap(place, length, written),
-            Area::Stack => self.record_stack(place, length, written),
+            Area::Heap => self.record_heap(place, length, beginning == Beginning::Written),
+            Area::Stack => self.record_stack(place, length, beginning),
         }
         Ok(NO_FIELDS)
     }
@@ -118,10 +120,15 @@ impl Lent<'_> {
         }
     }
 
-    fn record_stack(&mut self, place: Range<usize>, length: u32, written: bool) {
+    fn record_stack(&mut self, place: Range<usize>, length: u32, beginning: Beginning) {
+        let low_bits = match beginning {
+            Beginning::Unwritten => 0b00,
+            Beginning::Written => 0b01,
+            Beginning::Literal => 0b11,
+        };
         for (offset, position) in place.clone().enumerate() {
             let code = stack_code(length, offset as u32);
-            self.primary[position] = code << 2 | u8::from(written);
+            self.primary[position] = code << 2 | low_bits;
         }
         if length <= LONGEST_SHORT {
             return;
@@ -160,7 +167,8 @@ impl Lent<'_> {
         not_zero(n)?;
         let area = self.map.area(address).ok_or(refusal::OUTSIDE)?;
         let found = self.view().read(address).block()?;
-        found.filter(|f| f.holds(n)).ok_or(refusal::NO_BLOCK)?;
+        let found = found.filter(|f| f.holds(n)).ok_or(refusal::NO_BLOCK)?;
+        not_literal(found.literal)?;
         let first = self.map.position(area, address);
         for position in first..first + n as usize {
             match area {
@@ -179,16 +187,25 @@ impl Lent<'_> {
         Ok([found.base, found.length, found.offset, written])
     }
 
+    /// The mark that counts is the one read at the address, not at from (S5.2).
     fn valid(&self, address: u32, n: u32, from: u32) -> Outcome {
+        let first = self.one_block(address, n, from)?;
+        Ok([u32::from(first.is_some_and(|f| !f.literal)), 0, 0, 0])
+    }
+
+    fn valid_read(&self, address: u32, n: u32, from: u32) -> Outcome {
+        let first = self.one_block(address, n, from)?;
+        Ok([u32::from(first.is_some()), 0, 0, 0])
+    }
+
+    /// The address's reading, if n bytes from there and from lie in one block.
+    fn one_block(&self, address: u32, n: u32, from: u32) -> Result<Option<Found>, u32> {
         not_zero(n)?;
         // Damage in either reading is 8, whatever the other one says.
         let first = self.view().read(address).block()?;
         let origin = self.view().read(from).block()?;
-        let same = match (first, origin) {
-            (Some(first), Some(origin)) => first.holds(n) && first.same_block(&origin),
-            _ => false,
-        };
-        Ok([u32::from(same), 0, 0, 0])
+        let same = |first: &Found| origin.is_some_and(|origin| first.same_block(&origin));
+        Ok(first.filter(|first| first.holds(n) && same(first)))
     }
 
     fn initialised(&self, address: u32, n: u32) -> Outcome {

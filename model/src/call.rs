@@ -1,9 +1,10 @@
 //! The calls, their answers, and the numbers of refusal.
 
+use crate::block::Beginning;
 use crate::map::NULL;
 
-/// The numbers of refusal. The lowest wins, but for 12, which is given after 6,
-/// and 11, after 8.
+/// The numbers of refusal. The lowest wins, but for 7, which is given after 8,
+/// 11 after 8, 12 after 6, and 13 after 7.
 pub mod refusal {
     pub const BAD_MAP: u32 = 1;
     pub const SHADOW_LENGTH: u32 = 2;
@@ -17,6 +18,7 @@ pub mod refusal {
     pub const TOO_LARGE: u32 = 10;
     pub const NO_CELL: u32 = 11;
     pub const USED_UP: u32 = 12;
+    pub const LITERAL: u32 = 13;
 }
 
 /// A call with its arguments, in the order of the paper.
@@ -25,10 +27,12 @@ pub enum Call {
     Clear,
     Record { base: u32, length: u32 },
     RecordWritten { base: u32, length: u32 },
+    RecordLiteral { base: u32, length: u32 },
     Free { base: u32 },
     Written { address: u32, n: u32 },
     Ask { address: u32 },
     Valid { address: u32, n: u32, from: u32 },
+    ValidRead { address: u32, n: u32, from: u32 },
     Initialised { address: u32, n: u32 },
     Next { address: u32 },
     Audit,
@@ -38,9 +42,9 @@ impl Call {
     /// How many answer fields the call has when accepted.
     pub fn answer_fields(self) -> usize {
         match self {
-            Call::Clear | Call::Record { .. } | Call::RecordWritten { .. } => 0,
-            Call::Free { .. } | Call::Written { .. } => 0,
-            Call::Valid { .. } | Call::Initialised { .. } => 1,
+            Call::Record { .. } | Call::RecordWritten { .. } | Call::RecordLiteral { .. } => 0,
+            Call::Clear | Call::Free { .. } | Call::Written { .. } => 0,
+            Call::Valid { .. } | Call::ValidRead { .. } | Call::Initialised { .. } => 1,
             Call::Next { .. } => 2,
             Call::Ask { .. } | Call::Audit => 4,
         }
@@ -50,6 +54,25 @@ impl Call {
     /// those that only look, and free of the null pointer.
     pub fn alters_nothing(self) -> bool {
         self.answer_fields() > 0 || self == Call::Free { base: NULL }
+    }
+
+    /// The call that records a block which begins in this way.
+    pub fn to_begin(beginning: Beginning, base: u32, length: u32) -> Call {
+        match beginning {
+            Beginning::Unwritten => Call::Record { base, length },
+            Beginning::Written => Call::RecordWritten { base, length },
+            Beginning::Literal => Call::RecordLiteral { base, length },
+        }
+    }
+
+    /// Base, length and the way a block begins, where the call records one.
+    pub fn recording(self) -> Option<(u32, u32, Beginning)> {
+        match self {
+            Call::Record { base, length } => Some((base, length, Beginning::Unwritten)),
+            Call::RecordWritten { base, length } => Some((base, length, Beginning::Written)),
+            Call::RecordLiteral { base, length } => Some((base, length, Beginning::Literal)),
+            _ => None,
+        }
     }
 
     /// The call's kind and fields in a calls file; clear has no kind of its own.
@@ -65,6 +88,8 @@ impl Call {
             Call::Next { address } => (8, vec![address]),
             Call::Audit => (9, vec![]),
             Call::RecordWritten { base, length } => (10, vec![base, length]),
+            Call::RecordLiteral { base, length } => (14, vec![base, length]),
+            Call::ValidRead { address, n, from } => (15, vec![address, n, from]),
         })
     }
 
@@ -80,6 +105,8 @@ impl Call {
             (8, &[address]) => Call::Next { address },
             (9, &[]) => Call::Audit,
             (10, &[base, length]) => Call::RecordWritten { base, length },
+            (14, &[base, length]) => Call::RecordLiteral { base, length },
+            (15, &[address, n, from]) => Call::ValidRead { address, n, from },
             _ => return None,
         })
     }

@@ -46,6 +46,7 @@ fn heap_candidates(view: View) -> Option<Vec<Block>> {
             base,
             length,
             written,
+            literal: false,
         });
     }
     Some(blocks)
@@ -59,14 +60,18 @@ fn stack_candidates(view: View) -> Option<Vec<Block>> {
         };
         let base = view.map.stack_start + position as u32;
         placement(view.map, base, length).ok()?;
-        let written = view.primary[position..][..length as usize]
-            .iter()
-            .map(|byte| byte & 1 == 1)
-            .collect();
+        let bytes = &view.primary[position..][..length as usize];
+        let written: Vec<bool> = bytes.iter().map(|byte| byte & 1 == 1).collect();
+        // The image has the first byte's mark in all of them.
+        let literal = bytes[0] & 2 == 2;
+        if literal && written.contains(&false) {
+            return None;
+        }
         blocks.push(Block {
             base,
             length,
             written,
+            literal,
         });
     }
     Some(blocks)

@@ -5,7 +5,7 @@
 pub mod file;
 pub mod shadows;
 
-use crate::block::Block;
+use crate::block::{Beginning, Block};
 use crate::call::Call;
 use crate::map::{Area, Map, NULL};
 use crate::random::Random;
@@ -76,7 +76,7 @@ pub fn call(random: &mut Random, map: Map, blocks: &[Block]) -> Call {
             base: first_byte(random, map, blocks),
         },
         45..=59 => {
-            let address = address(random, map, blocks);
+            let address = used(random, map, blocks);
             let n = count(random, address, blocks);
             Call::Written { address, n }
         }
@@ -96,7 +96,22 @@ pub fn call(random: &mut Random, map: Map, blocks: &[Block]) -> Call {
     }
 }
 
-/// Either way to record, mostly where a block could stand, with lengths around
+/// A call on a range inside one of the blocks, of which there is one at least.
+pub fn inside(random: &mut Random, blocks: &[Block]) -> Call {
+    let block = &blocks[random.below(blocks.len() as u64) as usize];
+    let offset = random.between(0, block.length - 1);
+    let address = block.base + offset;
+    let n = random.between(1, block.length - offset);
+    let from = block.base + random.between(0, block.length - 1);
+    match random.below(4) {
+        0 => Call::Valid { address, n, from },
+        1 => Call::ValidRead { address, n, from },
+        2 => Call::Initialised { address, n },
+        _ => Call::Written { address, n },
+    }
+}
+
+/// Any way to record, mostly where a block could stand, with lengths around
 /// every step.
 pub fn record(random: &mut Random, map: Map, blocks: &[Block]) -> Call {
     let base = match random.below(10) {
@@ -118,22 +133,32 @@ pub fn record(random: &mut Random, map: Map, blocks: &[Block]) -> Call {
         12..=17 => random.between(9, 25),
         _ => random.between(1, map.heap_size),
     };
-    if random.once_in(3) {
-        Call::RecordWritten { base, length }
-    } else {
-        Call::Record { base, length }
-    }
+    recording(random, base, length)
 }
 
+/// A block of this base and length in any of the three ways.
+pub(crate) fn recording(random: &mut Random, base: u32, length: u32) -> Call {
+    let beginning = match random.below(9) {
+        0..=2 => Beginning::Written,
+        3 | 4 => Beginning::Literal,
+        _ => Beginning::Unwritten,
+    };
+    Call::to_begin(beginning, base, length)
+}
+
+/// Either of the two that ask for one block.
 fn valid(random: &mut Random, map: Map, blocks: &[Block]) -> Call {
-    let address = address(random, map, blocks);
+    let address = used(random, map, blocks);
     let n = count(random, address, blocks);
     let holder = blocks.iter().find(|block| block.holds(address, 1));
     let from = match holder {
         Some(block) if !random.once_in(3) => block.base + random.between(0, block.length),
         _ => self::address(random, map, blocks),
     };
-    Call::Valid { address, n, from }
+    match random.once_in(2) {
+        true => Call::Valid { address, n, from },
+        false => Call::ValidRead { address, n, from },
+    }
 }
 
 /// An address: ends of the address space, of areas and of blocks, and between.
@@ -146,6 +171,16 @@ pub fn address(random: &mut Random, map: Map, blocks: &[Block]) -> u32 {
         5 if random.once_in(4) => random.word(),
         _ => block_edge(random, map, blocks),
     }
+}
+
+/// An address to be read or written: at times one of a literal, or just past it.
+fn used(random: &mut Random, map: Map, blocks: &[Block]) -> u32 {
+    let literals: Vec<&Block> = blocks.iter().filter(|block| block.literal).collect();
+    if literals.is_empty() || !random.once_in(4) {
+        return address(random, map, blocks);
+    }
+    let block = random.pick(&literals);
+    block.base + random.between(0, block.length)
 }
 
 fn area_edge(random: &mut Random, map: Map) -> u32 {

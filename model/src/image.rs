@@ -64,7 +64,8 @@ fn heap_block(shadow: &mut [u8], position: usize, block: &Block) {
 fn stack_block(shadows: &mut Shadows, position: usize, block: &Block) {
     for (offset, &mark) in block.written.iter().enumerate() {
         let code = stack_code(block.length, offset as u32);
-        shadows.primary[position + offset] = 4 * code + u8::from(mark);
+        shadows.primary[position + offset] =
+            4 * code + 2 * u8::from(block.literal) + u8::from(mark);
     }
     if block.length <= LONGEST_SHORT {
         return;

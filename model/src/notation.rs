@@ -176,22 +176,26 @@ pub(crate) fn call_of(text: &str) -> Option<Call> {
     let text = text.trim_matches(' ');
     let (name, rest) = text.split_once(' ').unwrap_or((text, ""));
     let fields = numbers_of(rest)?;
-    let names = [
-        "record",
-        "free",
-        "written",
-        "ask",
-        "valid",
-        "initialised",
-        "next",
-        "audit",
-        "record_written",
-    ];
-    match names.iter().position(|&known| known == name) {
-        Some(index) => Call::from_record(index as u16 + 2, &fields),
+    match NAMES.iter().find(|(_, known)| *known == name) {
+        Some(&(kind, _)) => Call::from_record(kind, &fields),
         None => (name == "clear" && fields.is_empty()).then_some(Call::Clear),
     }
 }
+
+/// The kinds by their words.
+const NAMES: [(u16, &str); 11] = [
+    (2, "record"),
+    (3, "free"),
+    (4, "written"),
+    (5, "ask"),
+    (6, "valid"),
+    (7, "initialised"),
+    (8, "next"),
+    (9, "audit"),
+    (10, "record_written"),
+    (14, "record_literal"),
+    (15, "valid_read"),
+];
 
 pub(crate) fn answer_of(text: &str) -> Option<Answer> {
     let numbers = numbers_of(text)?;

@@ -2,7 +2,7 @@
 //!
 //! It is fed the map and each call's arguments, nothing else.
 
-use crate::block::{footprint, meet, placement, Block};
+use crate::block::{footprint, meet, placement_as, Beginning, Block};
 use crate::call::{refusal, Answer, Call, Outcome, NO_FIELDS};
 use crate::map::{Area, Map, NULL};
 
@@ -58,21 +58,23 @@ impl PlainList {
                 self.blocks.clear();
                 Ok(NO_FIELDS)
             }
-            Call::Record { base, length } => self.record(base, length, false),
-            Call::RecordWritten { base, length } => self.record(base, length, true),
+            Call::Record { base, length } => self.record(base, length, Beginning::Unwritten),
+            Call::RecordWritten { base, length } => self.record(base, length, Beginning::Written),
+            Call::RecordLiteral { base, length } => self.record(base, length, Beginning::Literal),
             Call::Free { base } => self.free(base),
             Call::Written { address, n } => self.written(address, n),
             Call::Ask { address } => self.ask(address),
             Call::Valid { address, n, from } => self.valid(address, n, from),
+            Call::ValidRead { address, n, from } => self.valid_read(address, n, from),
             Call::Initialised { address, n } => self.initialised(address, n),
             Call::Next { address } => self.next(address),
             Call::Audit => Ok(self.audit()),
         }
     }
 
-    /// Both ways to record: a block's bytes begin all written, or none is.
-    fn record(&mut self, base: u32, length: u32, written: bool) -> Outcome {
-        let area = placement(self.map, base, length)?;
+    /// The three ways to record.
+    fn record(&mut self, base: u32, length: u32, beginning: Beginning) -> Outcome {
+        let area = placement_as(beginning, self.map, base, length)?;
         let place = footprint(area, base, length);
         let taken = self.blocks.iter().any(|block| {
             self.map.area(block.base) == Some(area)
@@ -82,7 +84,7 @@ impl PlainList {
             return Err(refusal::TAKEN);
         }
         let index = self.blocks.partition_point(|block| block.base < base);
-        let block = Block::begun(base, length, written);
+        let block = Block::begun(base, length, beginning);
         self.blocks.insert(index, block);
         Ok(NO_FIELDS)
     }
@@ -103,6 +105,7 @@ impl PlainList {
         self.map.area(address).ok_or(refusal::OUTSIDE)?;
         let holder = self.blocks.iter_mut().find(|b| b.holds(address, n));
         let block = holder.ok_or(refusal::NO_BLOCK)?;
+        not_literal(block.literal)?;
         block.marks(address, n).fill(true);
         Ok(NO_FIELDS)
     }
@@ -116,6 +119,13 @@ impl PlainList {
     }
 
     fn valid(&self, address: u32, n: u32, from: u32) -> Outcome {
+        not_zero(n)?;
+        let block = self.holder(address, n);
+        let same = block.is_some_and(|block| !block.literal && block.holds(from, 1));
+        Ok([u32::from(same), 0, 0, 0])
+    }
+
+    fn valid_read(&self, address: u32, n: u32, from: u32) -> Outcome {
         not_zero(n)?;
         let block = self.holder(address, n);
         let same = block.is_some_and(|block| block.holds(from, 1));
@@ -152,6 +162,14 @@ impl PlainList {
 pub(crate) fn not_zero(n: u32) -> Result<(), u32> {
     if n == 0 {
         return Err(refusal::ZERO);
+    }
+    Ok(())
+}
+
+/// Number 13, which comes after 7 (S5.3).
+pub(crate) fn not_literal(literal: bool) -> Result<(), u32> {
+    if literal {
+        return Err(refusal::LITERAL);
     }
     Ok(())
 }

@@ -2,10 +2,10 @@
 
 use std::collections::BTreeMap;
 
-use crate::block::{footprint, meet, placement, Block};
+use crate::block::{footprint, meet, placement_as, Beginning, Block};
 use crate::call::{refusal, Answer, Call, Outcome, NO_FIELDS};
 use crate::map::{Map, NULL};
-use crate::plain::{not_zero, totals, List};
+use crate::plain::{not_literal, not_zero, totals, List};
 
 /// The plain list on a balanced tree, a peer for timing.
 #[derive(Clone, Debug)]
@@ -39,21 +39,23 @@ impl PlainTree {
                 self.blocks.clear();
                 Ok(NO_FIELDS)
             }
-            Call::Record { base, length } => self.record(base, length, false),
-            Call::RecordWritten { base, length } => self.record(base, length, true),
+            Call::Record { base, length } => self.record(base, length, Beginning::Unwritten),
+            Call::RecordWritten { base, length } => self.record(base, length, Beginning::Written),
+            Call::RecordLiteral { base, length } => self.record(base, length, Beginning::Literal),
             Call::Free { base } => self.free(base),
             Call::Written { address, n } => self.written(address, n),
             Call::Ask { address } => self.ask(address),
             Call::Valid { address, n, from } => self.valid(address, n, from),
+            Call::ValidRead { address, n, from } => self.valid_read(address, n, from),
             Call::Initialised { address, n } => self.initialised(address, n),
             Call::Next { address } => self.next(address),
             Call::Audit => Ok(totals(self.map, self.blocks.values())),
         }
     }
 
-    /// Both ways to record: a block's bytes begin all written, or none is.
-    fn record(&mut self, base: u32, length: u32, written: bool) -> Outcome {
-        let area = placement(self.map, base, length)?;
+    /// The three ways to record.
+    fn record(&mut self, base: u32, length: u32, beginning: Beginning) -> Outcome {
+        let area = placement_as(beginning, self.map, base, length)?;
         let place = footprint(area, base, length);
         // Footprints are disjoint and in base order, so only neighbours can meet.
         let before = self.blocks.range(..base).next_back();
@@ -65,7 +67,7 @@ impl PlainTree {
         if taken {
             return Err(refusal::TAKEN);
         }
-        let block = Block::begun(base, length, written);
+        let block = Block::begun(base, length, beginning);
         self.blocks.insert(base, block);
         Ok(NO_FIELDS)
     }
@@ -89,6 +91,7 @@ impl PlainTree {
             .next_back()
             .filter(|(_, block)| block.holds(address, n))
             .ok_or(refusal::NO_BLOCK)?;
+        not_literal(block.literal)?;
         block.marks(address, n).fill(true);
         Ok(NO_FIELDS)
     }
@@ -102,6 +105,13 @@ impl PlainTree {
     }
 
     fn valid(&self, address: u32, n: u32, from: u32) -> Outcome {
+        not_zero(n)?;
+        let block = self.holder(address, n);
+        let same = block.is_some_and(|block| !block.literal && block.holds(from, 1));
+        Ok([u32::from(same), 0, 0, 0])
+    }
+
+    fn valid_read(&self, address: u32, n: u32, from: u32) -> Outcome {
         not_zero(n)?;
         let block = self.holder(address, n);
         let same = block.is_some_and(|block| block.holds(from, 1));

@@ -28,6 +28,8 @@ pub struct Found {
     pub length: u32,
     pub offset: u32,
     pub written: bool,
+    /// Whether the block may only be read.
+    pub literal: bool,
 }
 
 impl Found {
@@ -36,7 +38,7 @@ impl Found {
         u64::from(self.offset) + u64::from(n) <= u64::from(self.length)
     }
 
-    /// Whether two readings give the same block.
+    /// Whether two readings give the same block; their marks are not compared.
     pub fn same_block(&self, other: &Found) -> bool {
         self.base == other.base && self.length == other.length
     }
@@ -91,27 +93,25 @@ impl View<'_> {
             length: length as u32,
             offset: offset as u32,
             written: self.heap[position + 4] >> place & 1 == 1,
+            literal: false,
         })
     }
 
     fn read_stack(&self, address: u32) -> Reading {
         let position = self.map.position(Area::Stack, address);
         let byte = self.primary[position];
-        let written = byte & 1 == 1;
-        if byte & 2 != 0 {
-            return Reading::Damaged;
-        }
         match byte >> 2 {
-            0 if written => Reading::Damaged,
+            // A written bit or bit 1 that stands with no block.
+            0 if byte != 0 => Reading::Damaged,
             0 => Reading::NoBlock,
             code @ 1..=36 => {
                 let (length, offset) = short_block(code);
-                self.fitting(address, length.into(), offset.into(), written)
+                self.fitting(address, length.into(), offset.into(), byte)
             }
             code @ 48..=62 => {
                 let j = usize::from(code - PIECE_CODE);
                 match self.piece(position, j) {
-                    Some((length, offset)) => self.fitting(address, length, offset, written),
+                    Some((length, offset)) => self.fitting(address, length, offset, byte),
                     None => Reading::Damaged,
                 }
             }
@@ -136,8 +136,9 @@ impl View<'_> {
         Some((length, o + j))
     }
 
-    /// The block found, unless it does not fit the stack area.
-    fn fitting(&self, address: u32, length: i128, offset: i128, written: bool) -> Reading {
+    /// The block found, with the two bits of its primary byte, unless it does
+    /// not fit the stack area.
+    fn fitting(&self, address: u32, length: i128, offset: i128, byte: u8) -> Reading {
         let bounds = self.map.bounds(Area::Stack);
         let base = i128::from(address) - offset;
         if base < i128::from(bounds.start) || base + length > i128::from(bounds.end) {
@@ -147,7 +148,8 @@ impl View<'_> {
             base: base as u32,
             length: length as u32,
             offset: offset as u32,
-            written,
+            written: byte & 1 == 1,
+            literal: byte & 2 == 2,
         })
     }
 }

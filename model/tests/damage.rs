@@ -2,6 +2,8 @@
 
 mod common;
 
+use std::collections::BTreeMap;
+
 use common::{on_bytes, texts};
 use model::call::{refusal, Call};
 use model::image::Shadows;
@@ -56,7 +58,7 @@ fn stack_clauses(shadows: &Shadows, address: i64) -> Vec<&'static str> {
     let byte = shadows.primary[(address - start) as usize];
     let code = i64::from(byte / 4);
     let mut names = holding(&[
-        (byte / 2 % 2 == 1, "stack: bit 1 is set"),
+        (code == 0 && byte / 2 % 2 == 1, "stack: bit 1 with code 0"),
         (
             code == 0 && byte % 2 == 1,
             "stack: code 0 with a written bit",
@@ -177,6 +179,17 @@ fn every_call_that_reads_there_meets_the_damage() {
                 n,
                 from: 0,
             },
+            Call::ValidRead { address, n, from },
+            Call::ValidRead {
+                address: 0,
+                n,
+                from,
+            },
+            Call::ValidRead {
+                address,
+                n,
+                from: 0,
+            },
             Call::Initialised { address, n },
             Call::Next { address },
             Call::Audit,
@@ -197,6 +210,8 @@ fn readings_are_damaged_exactly_when_a_clause_holds() {
     let seed = 0xda3a;
     println!("seed {seed}");
     let mut random = Random::new(seed);
+    // How often each clause of the stack held, for a byte without and with bit 1.
+    let mut met: BTreeMap<&str, [u32; 2]> = BTreeMap::new();
     for round in 0..4000 {
         let changes = random.below(5);
         let bytes = match round % 3 {
@@ -213,6 +228,20 @@ fn readings_are_damaged_exactly_when_a_clause_holds() {
             let damaged = view.read(address) == Reading::Damaged;
             let held = clauses(&bytes, address);
             assert_eq!(damaged, !held.is_empty(), "{address} {held:?} {bytes:?}");
+            if address >= 8192 {
+                let bit = bytes.primary[(address - 8192) as usize] / 2 % 2;
+                for clause in held {
+                    met.entry(clause).or_default()[usize::from(bit)] += 1;
+                }
+            }
         }
+    }
+    assert_eq!(met.len(), 10);
+    for (clause, [without, with]) in met {
+        let alone = clause == "stack: bit 1 with code 0";
+        assert!(
+            with > 100 && (alone || without > 100),
+            "{clause} {without} {with}"
+        );
     }
 }

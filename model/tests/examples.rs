@@ -58,6 +58,16 @@ fn free_null() {
 }
 
 #[test]
+fn every_example_of_the_open_points_of_literals() {
+    assert_eq!(check("literals-open-points.txt"), 12);
+}
+
+#[test]
+fn literals() {
+    assert_eq!(check("literals.txt"), 324);
+}
+
+#[test]
 fn marks() {
     assert_eq!(check("marks.txt"), 119);
 }

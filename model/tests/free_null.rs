@@ -146,11 +146,21 @@ fn the_other_calls_at_0_are_as_they_were() {
             (Call::Record { base, length: 0 }, 3),
             (Call::RecordWritten { base, length }, 4),
             (Call::RecordWritten { base, length: 0 }, 3),
+            (Call::RecordLiteral { base, length }, 4),
+            (Call::RecordLiteral { base, length: 0 }, 3),
             (Call::Written { address, n }, 4),
             (Call::Written { address, n: 0 }, 3),
             (Call::Ask { address }, 4),
             (
                 Call::Valid {
+                    address,
+                    n,
+                    from: 0,
+                },
+                0,
+            ),
+            (
+                Call::ValidRead {
                     address,
                     n,
                     from: 0,

@@ -56,7 +56,7 @@ fn cell(map: Map, state: &State, address: u32) -> (u32, u32) {
 /// The plain form decides every plain call, but for 5 and 12, and the cells follow.
 #[test]
 fn plain_calls_are_the_plain_forms() {
-    let mut met = [0; 13];
+    let mut met = [0; 14];
     for seed in 0..60_000 {
         println!("seed {seed}");
         let (map, before, call) = any(&mut Random::new(seed));
@@ -84,7 +84,7 @@ fn plain_calls_are_the_plain_forms() {
         }
         cells_follow(map, &before, &after, one);
     }
-    for number in [0, 3, 4, 5, 6, 7, 8, 12] {
+    for number in [0, 3, 4, 5, 6, 7, 8, 12, 13] {
         assert!(met[number] > 100, "{number}: {}", met[number]);
     }
 }
@@ -98,10 +98,7 @@ fn cells_follow(map: Map, before: &State, after: &State, call: Call) {
         },
         _ => call == Call::Clear,
     };
-    let recorded = match call {
-        Call::Record { base, .. } | Call::RecordWritten { base, .. } => Some(base),
-        _ => None,
-    };
+    let recorded = call.recording().map(|(base, ..)| base);
     for area in [Area::Heap, Area::Stack] {
         for address in map.bounds(area).step_by(4) {
             let address = address as u32;

@@ -1,4 +1,5 @@
-//! Every example of the open points of S-4, and a sample for each of its clauses.
+//! Every example of the open points of S-4, and a sample for each of its clauses
+//! and for each of S-5 in this form.
 
 mod common;
 
@@ -53,22 +54,29 @@ fn check(name: &str) -> usize {
 
 #[test]
 fn every_example_of_the_open_points() {
-    assert_eq!(check("origins-open-points.txt"), 7);
+    assert_eq!(check("origins-open-points.txt"), 8);
 }
 
 #[test]
 fn every_clause() {
-    assert_eq!(check("origins.txt"), 339);
+    assert_eq!(check("origins.txt"), 337);
+}
+
+#[test]
+fn literals() {
+    assert_eq!(check("literals-origins.txt"), 288);
 }
 
 /// The samples program's right-hand sides are whole: put on the given state they
 /// are the state afterwards.
 #[test]
 fn answered_lines_tell_the_whole_state() {
-    for line in ["origins-open-points.txt", "origins.txt"]
-        .map(lines)
-        .concat()
-    {
+    let names = [
+        "origins-open-points.txt",
+        "origins.txt",
+        "literals-origins.txt",
+    ];
+    for line in names.map(lines).concat() {
         let question = line
             .split("=>")
             .next()

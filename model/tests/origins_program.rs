@@ -17,7 +17,7 @@ fn text(input: &[u8]) -> String {
 
 #[test]
 fn lengths_are_those_of_the_kinds() {
-    let lengths = [20, 12, 8, 12, 8, 16, 12, 8, 4, 12, 12, 12, 12];
+    let lengths = [20, 12, 8, 12, 8, 16, 12, 8, 4, 12, 12, 12, 12, 12, 16];
     for (kind, right) in (1u16..).zip(lengths) {
         for length in 0..40u16 {
             let mut record = length.to_le_bytes().to_vec();
@@ -27,7 +27,7 @@ fn lengths_are_those_of_the_kinds() {
             assert_eq!(decoded, length == right, "{kind} {length}");
         }
     }
-    for kind in (0..1).chain(14..=u16::MAX) {
+    for kind in (0..1).chain(16..=u16::MAX) {
         for fields in 0..8 {
             assert!(decode(&encode(kind, &vec![0; fields])).is_none(), "{kind}");
         }
@@ -49,8 +49,9 @@ fn the_plain_program_stays() {
 
 #[test]
 fn a_cut_record_prints_nine_alone() {
-    for kind in [11, 12, 13] {
-        let record = encode(kind, &[8192, 8192]);
+    for kind in 11..=15 {
+        let fields = [8192, 4, 8192];
+        let record = encode(kind, &fields[..if kind == 15 { 3 } else { 2 }]);
         for left in 1..record.len() {
             let input = [encode(1, &MAP), record[..left].to_vec()].concat();
             assert_eq!(text(&input), "1 0\n9\n");
@@ -61,14 +62,15 @@ fn a_cut_record_prints_nine_alone() {
 
 #[test]
 fn before_any_map() {
-    let input: Vec<u8> = (11..=13).flat_map(|kind| encode(kind, &[0, 0])).collect();
-    assert_eq!(text(&input), "11 1\n12 1\n13 1\n");
+    let mut input: Vec<u8> = (11..=14).flat_map(|kind| encode(kind, &[0, 0])).collect();
+    input.extend(encode(15, &[0, 0, 0]));
+    assert_eq!(text(&input), "11 1\n12 1\n13 1\n14 1\n15 1\n");
 }
 
 #[test]
 fn random_files() {
     let mut ended_early = 0;
-    let mut lines_met = [0; 3];
+    let mut lines_met = [0; 8];
     for seed in 0..1000 {
         println!("seed {seed}");
         let input = file(&mut Random::new(seed), 200);
@@ -76,7 +78,10 @@ fn random_files() {
         assert!(output == origins_on_bytes(&input));
         let lines = String::from_utf8(output).expect("lines are text");
         ended_early += u32::from(lines.ends_with("\n9\n"));
-        for (count, line) in lines_met.iter_mut().zip(["1 10", "13 0 1", "13 0 0"]) {
+        let wanted = [
+            "1 10", "13 0 1", "13 0 0", "14 0", "14 5", "15 0 1", "15 0 0", "4 13",
+        ];
+        for (count, line) in lines_met.iter_mut().zip(wanted) {
             *count += lines.lines().filter(|&met| met == line).count();
         }
     }
@@ -95,7 +100,7 @@ fn plain_files_print_what_they_did() {
         let (plain, origins) = (lines(model::program::run(&input)), lines(run(&input)));
         for (plainly, line) in plain.lines().zip(origins.lines()) {
             if plainly != line {
-                let five = ["2 5", "10 5"].contains(&line);
+                let five = ["2 5", "10 5", "14 5"].contains(&line);
                 assert!(five || plainly == "9", "seed {seed}: {plainly}, {line}");
                 unaligned += u32::from(five);
                 break;

@@ -1,7 +1,7 @@
 //! The form with origins on random runs: the list, the bytes and the history of
 //! calls, call by call.
 
-use model::call::{refusal, Call};
+use model::call::refusal;
 use model::generate::{self, Scale};
 use model::map::Map;
 use model::origins::bytes;
@@ -15,7 +15,7 @@ use model::random::Random;
 /// What a run met: how often each kind gave each number, and how kind 13 answered.
 #[derive(Default)]
 struct Met {
-    numbers: [[u32; 13]; 14],
+    numbers: [[u32; 14]; 16],
     live: u32,
     /// Kind 13 answered 0 although the address was in a live block, and the
     /// pointer was set to a block.
@@ -61,12 +61,12 @@ fn judged(calls: &[(OriginsCall, bool)], cell: u32, address: u32, live: bool, me
 }
 
 /// Which numbers a list can give for each kind, where the origins do not run out.
-const GIVEN: [&[usize]; 14] = [
+const GIVEN: [&[usize]; 16] = [
     &[],
     &[0],
     &[0, 3, 4, 5, 6],
     &[0, 4, 7],
-    &[0, 3, 4, 7],
+    &[0, 3, 4, 7, 13],
     &[0, 4, 7],
     &[0, 3],
     &[0, 3],
@@ -76,11 +76,13 @@ const GIVEN: [&[usize]; 14] = [
     &[0, 4, 11],
     &[0, 4, 11],
     &[0, 4, 11],
+    &[0, 3, 4, 5, 6],
+    &[0, 3],
 ];
 
 fn all_met(met: &Met, used_up: bool) {
     for (kind, numbers) in GIVEN.iter().enumerate() {
-        let recording = kind == 2 || kind == 10;
+        let recording = [2, 10, 14].contains(&kind);
         for (number, &count) in met.numbers[kind].iter().enumerate() {
             let given = numbers.contains(&number) || (number == 12 && recording && used_up);
             let kept = if given { count > 100 } else { count == 0 };
@@ -144,8 +146,10 @@ fn no_origin_left_or_none_yet() {
             let map = generate::map(&mut random, Scale::Crowded);
             run(&mut random, map, from, LAST_ORIGIN, 60, &mut met);
         }
-        assert_eq!(met.numbers[2][0] + met.numbers[10][0], 0);
-        assert!(met.numbers[2][12] > 100 && met.numbers[10][12] > 100);
+        for kind in [2, 10, 14] {
+            let numbers = met.numbers[kind];
+            assert!(numbers[0] == 0 && numbers[12] > 100, "{kind}: {numbers:?}");
+        }
     }
 }
 
@@ -173,7 +177,7 @@ fn used_up_is_the_last_refusal() {
             let call = made.next(&mut random, map, list.blocks());
             let state = list.state();
             let answer = list.step(call);
-            if let OriginsCall::Plain(Call::Record { .. } | Call::RecordWritten { .. }) = call {
+            if matches!(call, OriginsCall::Plain(one) if one.recording().is_some()) {
                 let mut used_up = state.clone();
                 used_up.counter = random.pick(&[0, LAST_ORIGIN + 1, u64::MAX]);
                 let before = used_up.clone();

@@ -30,12 +30,21 @@ fn the_bytes_of_a_record() {
         encode(10, &[4104, 9]),
         [12, 0, 10, 0, 8, 16, 0, 0, 9, 0, 0, 0]
     );
+    assert_eq!(
+        encode(14, &[8192, 9]),
+        [12, 0, 14, 0, 0, 32, 0, 0, 9, 0, 0, 0]
+    );
+    assert_eq!(
+        encode(15, &[8192, 9, 8193]),
+        [16, 0, 15, 0, 0, 32, 0, 0, 9, 0, 0, 0, 1, 32, 0, 0]
+    );
 }
 
 #[test]
 fn lengths_are_those_of_the_kinds() {
     let lengths = [20, 12, 8, 12, 8, 16, 12, 8, 4, 12];
-    for (kind, right) in (1u16..).zip(lengths) {
+    let later = [(14, 12), (15, 16)];
+    for (kind, right) in (1u16..).zip(lengths).chain(later) {
         for length in 0..40u16 {
             let mut record = length.to_le_bytes().to_vec();
             record.extend(kind.to_le_bytes());
@@ -51,8 +60,8 @@ fn lengths_are_those_of_the_kinds() {
 
 #[test]
 fn a_cut_record_prints_nine_alone() {
-    for kind in [2, 10] {
-        let record = encode(kind, &[4104, 20]);
+    for kind in [2, 10, 14] {
+        let record = encode(kind, &[8192, 20]);
         for left in 1..record.len() {
             assert_eq!(after_map(&record[..left]), "1 0\n9\n");
         }
@@ -72,6 +81,15 @@ fn nothing_is_read_after_nine() {
         encode(2, &[4104]),
         encode(10, &[4104]),
         encode(10, &[4104, 8, 0]),
+        encode(12, &[4104, 1]),
+        encode(13, &[4104, 1]),
+        encode(14, &[8192]),
+        encode(14, &[8192, 8, 0]),
+        encode(15, &[8192, 8]),
+        encode(15, &[8192, 8, 8192, 0]),
+        encode(16, &[8192]),
+        encode(270, &[8192, 8]),
+        encode(271, &[8192, 8, 8192]),
         encode(9, &[0]),
         vec![4, 1, 9, 0],
         vec![0, 0, 9, 0],
@@ -134,6 +152,7 @@ fn line_on_bytes(map: Map, shadows: &mut Shadows, kind: u16, call: Call) -> Stri
 fn random_files() {
     let mut ended_early = 0;
     let mut too_large = 0;
+    let mut literals = [0; 5];
     for seed in 0..1500 {
         println!("seed {seed}");
         let input = file(&mut Random::new(seed), 200);
@@ -143,6 +162,11 @@ fn random_files() {
         let lines = String::from_utf8(output).expect("lines are text");
         ended_early += u32::from(lines.ends_with("\n9\n"));
         too_large += lines.lines().filter(|&line| line == "1 10").count();
+        let wanted = ["14 0", "14 6", "15 0 1", "15 0 0", "4 13"];
+        for (count, line) in literals.iter_mut().zip(wanted) {
+            *count += lines.lines().filter(|&met| met == line).count();
+        }
     }
     assert!(ended_early > 100 && too_large > 100);
+    assert!(literals.iter().all(|&count| count > 100), "{literals:?}");
 }

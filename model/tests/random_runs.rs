@@ -12,7 +12,7 @@ use model::plain_btree::PlainTree;
 use model::random::Random;
 
 /// How often each call met each number, so that a run can show what it tried.
-type Met = [[u32; 9]; 10];
+type Met = [[u32; 14]; 15];
 
 fn index(call: Call) -> usize {
     call.record_fields()
@@ -49,17 +49,23 @@ fn crowded_areas() {
         run(&mut random, map, 200, &mut met);
     }
     // Every number that a list can give was met by every call that can give it.
-    let given: [&[usize]; 10] = [
+    let given: [&[usize]; 15] = [
         &[0],
         &[0, 3, 4, 5, 6],
         &[0, 4, 7],
-        &[0, 3, 4, 7],
+        &[0, 3, 4, 7, 13],
         &[0, 4, 7],
         &[0, 3],
         &[0, 3],
         &[0, 7],
         &[0],
         &[0, 3, 4, 5, 6],
+        // Kinds 11 to 13 are not of this form.
+        &[],
+        &[],
+        &[],
+        &[0, 3, 4, 6],
+        &[0, 3],
     ];
     for (kind, numbers) in given.iter().enumerate() {
         for (number, &count) in met[kind].iter().enumerate() {
@@ -110,11 +116,11 @@ fn a_full_area_of_the_smallest_blocks() {
     let stack = (0..65_536).map(|i| map.stack_start + i);
     for base in heap.chain(stack) {
         let length = 1;
-        // Every other stack block begins written.
-        let call = if base < map.heap_start && base % 2 == 0 {
-            Call::RecordWritten { base, length }
-        } else {
-            Call::Record { base, length }
+        // Every other stack block begins written, half of these as literals.
+        let call = match base % 4 {
+            0 if base < map.heap_start => Call::RecordWritten { base, length },
+            2 if base < map.heap_start => Call::RecordLiteral { base, length },
+            _ => Call::Record { base, length },
         };
         assert_eq!(tree.step(call).number, 0);
         assert_eq!(on(map, &mut shadows, call).number, 0);

@@ -1,4 +1,4 @@
-//! The two ways to record: record_written is record, and the whole block written.
+//! Two of the ways to record: record_written is record, and the whole block written.
 
 mod common;
 
@@ -14,10 +14,9 @@ use model::random::Random;
 
 /// Base and length of a recording, good or to be refused.
 fn place(random: &mut Random, map: Map, list: &PlainList) -> (u32, u32) {
-    match generate::record(random, map, list.blocks()) {
-        Call::Record { base, length } | Call::RecordWritten { base, length } => (base, length),
-        call => panic!("{call:?} records nothing"),
-    }
+    let call = generate::record(random, map, list.blocks());
+    let (base, length, _) = call.recording().expect("a call that records");
+    (base, length)
 }
 
 /// Recorded unwritten and, if that was accepted, written from end to end.

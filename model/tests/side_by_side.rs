@@ -4,7 +4,7 @@
 mod common;
 
 use common::{data, on};
-use model::call::{Answer, Call};
+use model::call::{refusal, Answer, Call};
 use model::image::{image, Shadows};
 use model::notation::EXAMPLE_MAP;
 use model::plain::{List, PlainList};
@@ -75,6 +75,50 @@ fn whole_life(both: &mut Both, base: u32) {
     both.step(Call::Audit);
     both.step(Call::Free { base });
     assert_eq!(both.shadows, Shadows::cleared(EXAMPLE_MAP));
+}
+
+#[test]
+fn every_literal_alone_on_every_address() {
+    for base in (4096..4160).chain(8192..8224) {
+        for length in 0..34 {
+            let mut both = Both::new();
+            let answer = both.step(Call::RecordLiteral { base, length });
+            let outside = length > 0 && base < 8192;
+            match outside {
+                true => assert_eq!(answer.number, refusal::OUTSIDE),
+                false => assert_eq!(answer, Both::new().step(Call::Record { base, length })),
+            }
+            if answer.number != 0 {
+                continue;
+            }
+            for address in base - 1..=base + length {
+                reads_and_is_not_written(&mut both, base, length, address);
+            }
+            let [.., live, written] = both.step(Call::Audit).fields;
+            assert_eq!([live, written], [length, length], "{base} {length}");
+            whole_life(&mut both, base);
+        }
+    }
+}
+
+/// Ranges from an address of a literal or beside it, up to one byte too far.
+fn reads_and_is_not_written(both: &mut Both, base: u32, length: u32, address: u32) {
+    let inside = (base..base + length).contains(&address);
+    for n in 1..=length + 1 {
+        let whole = inside && address - base + n <= length;
+        let from = base;
+        let valid = both.step(Call::Valid { address, n, from });
+        let readable = both.step(Call::ValidRead { address, n, from });
+        let written = both.step(Call::Initialised { address, n });
+        let answers = [valid, readable, written].map(|said| said.fields[0]);
+        assert_eq!(answers, [0, u32::from(whole), u32::from(whole)]);
+        let number = match (whole, (8192..8224).contains(&address)) {
+            (true, _) => refusal::LITERAL,
+            (false, true) => refusal::NO_BLOCK,
+            (false, false) => refusal::OUTSIDE,
+        };
+        assert_eq!(both.step(Call::Written { address, n }).number, number);
+    }
 }
 
 #[test]

@@ -1,15 +1,12 @@
 //! The samples program's input and stored output, beside what document 01,
-//! its open points and Table 1 state, and beside the plain list.
+//! its open points and the requests state, and beside the plain list.
 //!
 //! After new lines in `crates/samples/stdin`, the stored output is made anew by
 //! `model-samples < crates/samples/stdin > crates/samples/stdout`.
 
 mod common;
 
-use std::collections::HashMap;
-use std::path::PathBuf;
-
-use common::{data, table1};
+use common::{data, right_hand_sides, stored};
 use model::call::Call;
 use model::decode::decode;
 use model::image::{image, Shadows};
@@ -20,7 +17,7 @@ use model::reading::View;
 use model::samples::{answered, LONGEST_LINE};
 
 /// The files of tests/data whose right-hand sides are stated and stored.
-const STATED: [&str; 11] = [
+const STATED: [&str; 14] = [
     "document-01.txt",
     "open-points.txt",
     "damage.txt",
@@ -32,25 +29,10 @@ const STATED: [&str; 11] = [
     "marks.txt",
     "origins-open-points.txt",
     "origins.txt",
+    "literals-open-points.txt",
+    "literals.txt",
+    "literals-origins.txt",
 ];
-
-fn stored(name: &str) -> String {
-    let path = PathBuf::from(env!("CARGO_MANIFEST_DIR"))
-        .join("../crates/samples")
-        .join(name);
-    std::fs::read_to_string(&path).unwrap_or_else(|error| panic!("{}: {error}", path.display()))
-}
-
-/// The stored right-hand side of each line of the input.
-fn right_hand_sides() -> HashMap<String, String> {
-    let (input, output) = (stored("stdin"), stored("stdout"));
-    let pairs = input.lines().zip(output.lines());
-    let sides = pairs.filter_map(|(line, answered)| {
-        let side = answered.strip_prefix(line)?.strip_prefix(" =>")?;
-        Some((line.to_owned(), side.trim_start().to_owned()))
-    });
-    sides.collect()
-}
 
 /// A line of a data file as the program reads it, and what is stated of it.
 fn split(line: &str) -> (String, &str) {
@@ -130,28 +112,6 @@ fn stored_with_origins(question: &str, side: &str, stated: &str) {
     assert_eq!(after, kept, "{question}");
 }
 
-#[test]
-fn table_1_is_stored_in_both_directions() {
-    let sides = right_hand_sides();
-    let rows = table1();
-    for length in 1..=8 {
-        for (word, mark) in [("record", 0), ("record_written", 1)] {
-            let bytes = rows.iter().filter(|row| row.1 == length);
-            let bytes: Vec<String> = bytes.map(|row| (4 * row.0 + mark).to_string()).collect();
-            let stated = format!("0 then pri@8={}", bytes.join(","));
-            assert_eq!(sides[&format!("on: : {word} 8200 {length}")], stated);
-        }
-    }
-    for (code, length, offset) in rows {
-        let (position, byte, address) = (8 + offset, 4 * code, 8200 + offset);
-        let stated = format!("0 8200 {length} {offset} 0");
-        assert_eq!(
-            sides[&format!("on: pri@{position}={byte} : ask {address}")],
-            stated
-        );
-    }
-}
-
 /// By the heap's bytes alone, and by the stack's alone.
 #[test]
 fn each_call_that_can_give_8_does() {
@@ -162,14 +122,15 @@ fn each_call_that_can_give_8_does() {
         "written",
         "ask",
         "valid",
+        "valid_read",
         "initialised",
         "next",
         "audit",
     ] {
         for other in [["pri@", "sec@"], ["heap@", "heap@"]] {
             let alone = |question: &str| {
-                question.contains(&format!(" : {word}"))
-                    && !other.iter().any(|o| question.contains(o))
+                let call = question.split(" : ").nth(1).unwrap_or("");
+                call.split(' ').next() == Some(word) && !other.iter().any(|o| question.contains(o))
             };
             assert!(refused.iter().any(|s| alone(s.0)), "{word} {other:?}");
         }
@@ -223,6 +184,10 @@ fn list_of(shadows: &Shadows) -> Option<PlainList> {
     let mut list = PlainList::new(EXAMPLE_MAP);
     for block in blocks {
         let (base, length) = (block.base, block.length);
+        if block.literal {
+            list.step(Call::RecordLiteral { base, length });
+            continue;
+        }
         list.step(Call::Record { base, length });
         for (address, _) in (base..).zip(&block.written).filter(|(_, &mark)| mark) {
             list.step(Call::Written { address, n: 1 });

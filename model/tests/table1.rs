@@ -40,6 +40,36 @@ fn codes_in_the_primary_shadow() {
         on(EXAMPLE_MAP, &mut begun, call);
         assert_eq!(begun.primary[8 + offset as usize], 4 * code + 1);
         assert!(begun.secondary.iter().all(|&byte| byte == 0));
+        let mut literal = Shadows::cleared(EXAMPLE_MAP);
+        let call = Call::RecordLiteral { base, length };
+        on(EXAMPLE_MAP, &mut literal, call);
+        assert_eq!(literal.primary[8 + offset as usize], 4 * code + 3);
+        assert!(literal.secondary.iter().all(|&byte| byte == 0));
+    }
+}
+
+/// Every byte of a short block, whatever its two low bits.
+#[test]
+fn low_bits_of_short_codes() {
+    for (code, length, offset) in table1() {
+        for low in 0..4 {
+            let mut shadows = Shadows::cleared(EXAMPLE_MAP);
+            shadows.primary[8 + offset as usize] = 4 * code + low;
+            let (address, n, from) = (8200 + offset, 1, 8200 + offset);
+            let mut said = |call| on(EXAMPLE_MAP, &mut shadows, call);
+            let ask = said(Call::Ask { address });
+            let written = u32::from(low % 2);
+            assert_eq!(
+                (ask.number, ask.fields),
+                (0, [8200, length, offset, written])
+            );
+            let valid = said(Call::Valid { address, n, from });
+            assert_eq!((valid.number, valid.fields[0]), (0, u32::from(low < 2)));
+            let readable = said(Call::ValidRead { address, n, from });
+            assert_eq!((readable.number, readable.fields[0]), (0, 1));
+            let number = if low < 2 { 0 } else { 13 };
+            assert_eq!(said(Call::Written { address, n }).number, number);
+        }
     }
 }
 

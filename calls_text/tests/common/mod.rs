@@ -11,6 +11,7 @@ use std::time::{Duration, Instant};
 
 use calls_text::kinds::Form;
 use calls_text::records::{records, Record};
+use calls_text::show::{show, Shown};
 use calls_text::text::{parse, Parsed};
 use model::program::encode;
 
@@ -35,6 +36,20 @@ pub fn calls(name: &str, text: &str) -> Vec<u8> {
 /// A text taken in, with its form.
 pub fn parsed(name: &str, text: &str) -> Parsed {
     parse(name, text).unwrap_or_else(|errors| panic!("{}", errors.join("\n")))
+}
+
+/// The table of a text and an output.
+pub fn shown(text: &str, output: &str) -> Shown {
+    show(&parsed("x", text), output)
+}
+
+/// The meaning of one line as the line of one record.
+pub fn meaning(record: &str, line: &str) -> String {
+    let shown = shown(record, line);
+    assert_eq!(shown.wrong, 0, "{}", shown.text);
+    let row = shown.text.lines().nth(1).expect("a row");
+    let (_, meaning) = row.split_once(&format!("  {line}  ")).expect("the line");
+    meaning.trim().to_owned()
 }
 
 /// Names and calls files of the examples of a form.

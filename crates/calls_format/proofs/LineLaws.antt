@@ -137,17 +137,18 @@ module _ (k n a b c d : ℕ) where
       go (is-true t) = rw (z, ne-eqb k 5 (omega arith), t)
       go (is-false t) = let e : k ≡ 7 = omega (arith, eqb-false k 6 t) in rw (z, e)
 
-  pub told-live : n ≡ 0 → k ≡ 13 → fieldsTold k (answer n a b c d) ≡ a ∷ []
+  pub told-13-15 : n ≡ 0 → (k ≡ 13) ⊎ (k ≡ 15) → fieldsTold k (answer n a b c d) ≡ a ∷ []
   unfolding answerFields
-  told-live z e = rw (z, e)
+  told-13-15 z (inl e) = rw (z, e)
+  told-13-15 z (inr e) = rw (z, e)
 
   pub told-two : n ≡ 0 → k ≡ 8 → fieldsTold k (answer n a b c d) ≡ a ∷ b ∷ []
   unfolding answerFields
   told-two z e = rw (z, e)
 
-  pub told-no : n ≡ 0 → k ≢ 5 → k ≢ 6 → k ≢ 7 → k ≢ 8 → k ≢ 9 → k ≢ 13 → fieldsTold k (answer n a b c d) ≡ []
+  pub told-no : n ≡ 0 → k ≢ 5 → k ≢ 6 → k ≢ 7 → k ≢ 8 → k ≢ 9 → k ≢ 13 → k ≢ 15 → fieldsTold k (answer n a b c d) ≡ []
   unfolding answerFields
-  told-no z e f g h i j = rw (z, ne-eqb k 5 e, ne-eqb k 6 f, ne-eqb k 7 g, ne-eqb k 8 h, ne-eqb k 9 i, ne-eqb k 13 j)
+  told-no z e f g h i j m = rw (z, ne-eqb k 5 e, ne-eqb k 6 f, ne-eqb k 7 g, ne-eqb k 8 h, ne-eqb k 9 i, ne-eqb k 13 j, ne-eqb k 15 m)
 
 -- ---- a line's length
 
@@ -162,7 +163,7 @@ two-digits k h = go (test (ltb k 10))
 
 no-fields : (k : ℕ) → 100 ≤ k → answerFields k ≡ 0
 unfolding answerFields
-no-fields k h = rw (ne-eqb k 5 (omega arith), ne-eqb k 6 (omega arith), ne-eqb k 7 (omega arith), ne-eqb k 8 (omega arith), ne-eqb k 9 (omega arith), ne-eqb k 13 (omega arith))
+no-fields k h = rw (ne-eqb k 5 (omega arith), ne-eqb k 6 (omega arith), ne-eqb k 7 (omega arith), ne-eqb k 8 (omega arith), ne-eqb k 9 (omega arith), ne-eqb k 13 (omega arith), ne-eqb k 15 (omega arith))
 
 told-short : (k : ℕ) (r : Answer) → length (decimal k) + length (spaced (fieldsTold k r)) ≤ 46
 unfolding spaced

@@ -12,7 +12,7 @@ use Rattle.plain.specs.Areas.{mapRules}
 use Rattle.plain.specs.PlainList.{plainStep}
 use Rattle.plain.specs.Run.{run}
 use Rattle.plain.proofs.SameLaws.{step-same}
-use Rattle.plain.proofs.RunLaws.{keep, low}
+use Rattle.plain.proofs.RunLaws.{keep, never-8}
 use Rattle.heap_layout.specs.Image.{heapImage}
 use Rattle.stack_layout.specs.Image.{stackImage}
 use Rattle.shadows.specs.Shadows.{Shadows, zeroShadows, shadowOps, image}
@@ -43,7 +43,7 @@ mirrors =
       clears = λ m n bs g. sym (shadow-images n g .image-nil);
       keeps = λ m c bs P g e. keep (mapRules m) (map-sound m g) c bs (P g);
       starts = λ m n bs P g e. tt;
-      low = λ m c bs. let h = low (mapRules m) c bs in λ e. omega (arith, h, e);
+      low = λ m c bs. never-8 (mapRules m) c bs;
     }
 
 first-image : firstState ≡ imageOf firstPlain

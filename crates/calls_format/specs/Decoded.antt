@@ -1,8 +1,12 @@
 -- What the code's requests stand for, and the kind and length that a request's record has. Assumes nothing.
+use mathlib.Core.Path.{_≡_}
 use mathlib.Core.Bool.{Bool, true, false, _||_}
+use mathlib.Core.Logic.{_⊎_}
 use mathlib.Core.Option.{Option, none, some}
 use Prim.Native.Nat.{ℕ}
 use lib.Dec.{eqb}
+use Rattle.plain.specs.declared.Beginning.{Beginning}
+use Rattle.plain.specs.declared.Beginning.the-variants.{Unwritten, Written, Literal}
 use Rattle.plain.specs.Call.{Call, clear, begin, free, written, ask, valid, initialised, next, audit}
 use Rattle.monitor_base.specs.Answers.{callOf}
 use Rattle.calls_format.specs.declared.Request as code
@@ -20,15 +24,29 @@ abbrev pub decodedOf : Decoded → Option Request
 decodedOf (decoded.Call r) = some (requested r)
 decodedOf decoded.Undecodable = none
 
+-- the kind that records a block which begins so
+abbrev pub beginKind : Beginning → ℕ
+beginKind Unwritten = 2
+beginKind Written = 10
+beginKind Literal = 14
+
+-- the kinds that record a block
+abbrev pub Records : (kind : ℕ) → Type 0
+Records k = (k ≡ 2) ⊎ (k ≡ 10) ⊎ (k ≡ 14)
+
+-- the kind that asks whether bytes may be written, or read
+abbrev pub validKind : (write : Bool) → ℕ
+validKind true = 6
+validKind false = 15
+
 -- the kind of a call; clear has none of its own
 abbrev pub callKind : Call → ℕ
 callKind clear = 0
-callKind (begin false b l) = 2
-callKind (begin true b l) = 10
+callKind (begin how b l) = beginKind how
 callKind (free x) = 3
 callKind (written a n) = 4
 callKind (ask a) = 5
-callKind (valid a n from) = 6
+callKind (valid write a n from) = validKind write
 callKind (initialised a n) = 7
 callKind (next a) = 8
 callKind audit = 9
@@ -52,4 +70,4 @@ longest = 20
 
 -- the kinds whose calls write; every other kind but the map's, 1, has calls that only read
 abbrev pub writes : (kind : ℕ) → Bool
-writes k = eqb k 2 || eqb k 3 || eqb k 4 || eqb k 10
+writes k = eqb k 2 || eqb k 3 || eqb k 4 || eqb k 10 || eqb k 14

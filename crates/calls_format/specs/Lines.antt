@@ -22,7 +22,7 @@ spaced (v ∷ vs) = 32 ∷ (decimal v ++ spaced vs)
 
 -- how many answer fields a kind has; 13 is of the form with origins
 unfoldable pub answerFields : (kind : ℕ) → ℕ
-answerFields k = cond (eqb k 5) 4 (cond (eqb k 6) 1 (cond (eqb k 7) 1 (cond (eqb k 8) 2 (cond (eqb k 9) 4 (cond (eqb k 13) 1 0)))))
+answerFields k = cond (eqb k 5) 4 (cond (eqb k 6) 1 (cond (eqb k 7) 1 (cond (eqb k 8) 2 (cond (eqb k 9) 4 (cond (eqb k 13) 1 (cond (eqb k 15) 1 0))))))
 
 -- kind, number and, if accepted, the answer fields in their order
 unfoldable pub line : (kind : ℕ) → Answer → List ℕ

@@ -42,7 +42,9 @@ fieldsOf k =
     (cond (eqb k 7) (some 2)
     (cond (eqb k 8) (some 1)
     (cond (eqb k 9) (some 0)
-    (cond (eqb k 10) (some 2) none)))))))))
+    (cond (eqb k 10) (some 2)
+    (cond (eqb k 14) (some 2)
+    (cond (eqb k 15) (some 3) none)))))))))))
 
 -- what a record of a known kind asks for; the kind that is left at the end is 9
 unfoldable pub requestOf : (kind : ℕ) → List ℕ → Request
@@ -52,11 +54,13 @@ requestOf k l =
     (cond (eqb k 3) (call (plain.free (field l 0)))
     (cond (eqb k 4) (call (plain.written (field l 0) (field l 1)))
     (cond (eqb k 5) (call (plain.ask (field l 0)))
-    (cond (eqb k 6) (call (plain.valid (field l 0) (field l 1) (field l 2)))
+    (cond (eqb k 6) (call (plain.valid-write (field l 0) (field l 1) (field l 2)))
     (cond (eqb k 7) (call (plain.initialised (field l 0) (field l 1)))
     (cond (eqb k 8) (call (plain.next (field l 0)))
     (cond (eqb k 10) (call (plain.record-written (field l 0) (field l 1)))
-    (call plain.audit)))))))))
+    (cond (eqb k 14) (call (plain.record-literal (field l 0) (field l 1)))
+    (cond (eqb k 15) (call (plain.valid-read (field l 0) (field l 1) (field l 2)))
+    (call plain.audit)))))))))))
 
 -- the length that a record of so many fields has
 abbrev pub recordLength : (fields : ℕ) → ℕ

@@ -2,11 +2,12 @@
 ghost use mathlib.Core.Path.{_≡_};
 ghost use Rattle.monitor_base.specs.Answers.{callOf, queryOf, updateOf};
 ghost use Rattle.calls_format.specs.Decoded as kinds;
-ghost use Rattle.calls_format.specs.Decoded.{requested, callKind, kindOf, lengthOf};
+ghost use Rattle.calls_format.specs.Decoded.{requested, beginKind, Records, callKind, kindOf, lengthOf};
 use calls_format::Request;
 use monitor_base::Call;
 use monitor_base::Query;
 use monitor_base::Update;
+use plain::Beginning;
 
 // How long a record of a kind is; 0 where the kind is unknown.
 pub fn record_length(kind: u32) -> usize
@@ -14,8 +15,8 @@ pub fn record_length(kind: u32) -> usize
 {
     match kind {
         1 => 20,
-        6 => 16,
-        2 | 4 | 7 | 10 => 12,
+        6 | 15 => 16,
+        2 | 4 | 7 | 10 | 14 => 12,
         3 | 5 | 8 => 8,
         9 => 4,
         _ => 0,
@@ -26,7 +27,7 @@ pub fn record_length(kind: u32) -> usize
 pub fn writes(kind: u32) -> bool
     ensures { λ r. ⌜ r ≡ kinds.writes kind ⌝ }
 {
-    (kind == 2) | (kind == 3) | (kind == 4) | (kind == 10)
+    (kind == 2) | (kind == 3) | (kind == 4) | (kind == 10) | (kind == 14)
 }
 
 fn query_kind(query: Query) -> u32
@@ -34,10 +35,38 @@ fn query_kind(query: Query) -> u32
 {
     match query {
         Query::Ask(_) => 5,
-        Query::Valid(_, _, _) => 6,
+        Query::Valid(write, _, _, _) => {
+            if write {
+                return 6;
+            }
+            15
+        }
         Query::Initialised(_, _) => 7,
         Query::Next(_) => 8,
         Query::Audit => 9,
+    }
+}
+
+// The kind that records a block.
+fn begin_kind(how: Beginning) -> u32
+    ensures { λ r. ⌜ r ≡ beginKind how ⌝ }
+{
+    match how {
+        Beginning::Unwritten => 2,
+        Beginning::Written => 10,
+        Beginning::Literal => 14,
+    }
+}
+
+// How a block begins that a record of this kind records.
+pub fn beginning_of(kind: u32) -> Beginning
+    requires { ⌜ Records kind ⌝ }
+    ensures { λ r. ⌜ beginKind r ≡ kind ⌝ }
+{
+    match kind {
+        2 => Beginning::Unwritten,
+        10 => Beginning::Written,
+        _ => Beginning::Literal,
     }
 }
 
@@ -47,8 +76,7 @@ fn update_kind(update: Update) -> u32
 {
     match update {
         Update::Clear => 0,
-        Update::Record(_, _) => 2,
-        Update::RecordWritten(_, _) => 10,
+        Update::Begin(how, _, _) => begin_kind(how),
         Update::Free(_) => 3,
         Update::Written(_, _) => 4,
     }

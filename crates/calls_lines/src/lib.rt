@@ -56,7 +56,7 @@ fn put_fields(line: &mut [u8], place: usize, kind: u32, r: Answer) -> usize
         }
         6 | 7 => put_spaced(line, place, r.first),
         8 => put_two(line, place, r.first, r.second),
-        13 => put_spaced(line, place, r.first),
+        13 | 15 => put_spaced(line, place, r.first),
         _ => place,
     }
 }

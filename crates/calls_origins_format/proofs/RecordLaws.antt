@@ -10,6 +10,7 @@ use lib.ListN.{length, length-append}
 use lib.Dec.{leb, eqb}
 use borrow.Author.Tests.{le-leb, lt-leb, eq-eqb, ne-eqb, leb-true, eqb-true, eqb-false}
 use Rattle.number.proofs.TestLaws.{Test, is-true, is-false, test, and-true, and-false-r}
+use Rattle.plain.specs.declared.Beginning.the-variants.{Unwritten, Written, Literal}
 use Rattle.plain.specs.Call.{clear, begin, free, written, ask, valid, initialised, next, audit}
 use Rattle.origins_list.specs.Call.{point, copy, live}
 use Rattle.origins_base.specs.declared.Pointer.{Pointer}
@@ -36,9 +37,10 @@ unfolding decode
 decode-own l e = rw e
 
 -- the plain program has no kind of these
-own-unknown : (k : ℕ) → 11 ≤ k → fieldsOf k ≡ none
-own-unknown k h =
+pub own-unknown : (k : ℕ) → 11 ≤ k → k ≤ 13 → fieldsOf k ≡ none
+own-unknown k h j =
     no-kind k (omega arith) (omega arith) (omega arith) (omega arith) (omega arith) (omega arith) (omega arith) (omega arith) (omega arith) (omega arith)
+    (omega arith) (omega arith)
 
 -- what the plain program decodes is of none of these kinds
 pub decode-asked : (l : List ℕ) (r : records.Request) → records.decode l ≡ some r → decode l ≡ some (asked r)
@@ -48,7 +50,7 @@ decode-asked l r e = go (test (isOwn (kindField l)))
     go (is-false t) = decode-plain l t ∙ rw e
     go (is-true t) =
         let b = and-true (leb 11 (kindField l)) (leb (kindField l) 13) t in
-        let n = no-record l (own-unknown (kindField l) (leb-true 11 (kindField l) (b .0))) in
+        let n = no-record l (own-unknown (kindField l) (leb-true 11 (kindField l) (b .0)) (leb-true (kindField l) 13 (b .1))) in
         absurd (let z : _≡_ {A = ℕ} 0 1 = cc in omega arith)
 
 -- fewer bytes than a record of these kinds has: what the plain program makes of them
@@ -62,7 +64,7 @@ decode-short l h = go (test (isOwn (kindField l)))
         decode-own l t
         ∙ rw (
           and-false-r (eqb (lengthField l) ownLength) (leb ownLength (length l)) (lt-leb ownLength (length l) h),
-          no-record l (own-unknown (kindField l) (leb-true 11 (kindField l) (b .0))),
+          no-record l (own-unknown (kindField l) (leb-true 11 (kindField l) (b .0)) (leb-true (kindField l) 13 (b .1))),
         )
 
 pub decode-other : (l : List ℕ) → isOwn (kindField l) ≡ true → lengthField l ≢ ownLength → decode l ≡ none
@@ -109,12 +111,14 @@ asked-kind (call c) = refl
 pub plain-length : (q : records.Request) → lengthOf (kindOf (asked q)) ≡ decoded.lengthOf (decoded.kindOf q)
 plain-length (newMap m) = refl
 plain-length (call clear) = refl
-plain-length (call (begin false b l)) = refl
-plain-length (call (begin true b l)) = refl
+plain-length (call (begin Unwritten b l)) = refl
+plain-length (call (begin Written b l)) = refl
+plain-length (call (begin Literal b l)) = refl
 plain-length (call (free x)) = refl
 plain-length (call (written a n)) = refl
 plain-length (call (ask a)) = refl
-plain-length (call (valid a n from)) = refl
+plain-length (call (valid true a n from)) = refl
+plain-length (call (valid false a n from)) = refl
 plain-length (call (initialised a n)) = refl
 plain-length (call (next a)) = refl
 plain-length (call audit) = refl

@@ -2,7 +2,7 @@
 use mathlib.Core.Path.{refl}
 use Rattle.number.specs.Little.{word}
 use Rattle.calls_format.specs.Records as records
-use Rattle.calls_format.specs.Records.{fieldsOf}
+use Rattle.calls_format.specs.Records.{fieldsOf, requestOf}
 use Rattle.calls_format.specs.Running.{serveBy}
 use Rattle.calls_format.proofs.NewMapSamples.{each-taken, each-large, each-bad}
 use Rattle.calls_origins_format.specs.Records.{ownCall, decode}
@@ -14,9 +14,9 @@ pub takes-plain-kinds : TakesPlainKinds
 takes-plain-kinds = decode-asked
 
 pub record-samples-hold : RecordSamplesHold
-unfolding decoded own decode ownCall records.decode fieldsOf word
+unfolding decoded own decode ownCall records.decode fieldsOf requestOf word
 record-samples-hold = (
-  (refl, (refl, (refl, (refl, (refl, (refl, (refl, (refl, (refl, (refl, (refl, (refl, (refl, tt))))))))))))),
+  (refl, (refl, (refl, (refl, (refl, (refl, (refl, (refl, (refl, (refl, (refl, (refl, (refl, (refl, (refl, (refl, (refl, tt))))))))))))))))),
   (refl, (refl, (refl, tt))),
 )
 

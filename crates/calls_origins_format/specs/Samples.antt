@@ -1,13 +1,13 @@
 -- What this program takes: the plain program's records, and its own kinds and new maps by samples. Proved in proofs/Samples.antt. Assumes nothing.
 use mathlib.Core.Path.{_≡_}
-use mathlib.Core.List.{List, [], _∷_}
+use mathlib.Core.List.{List, [], _∷_, _++_}
 use mathlib.Core.Option.{Option, none, some}
 use Prim.Native.Nat.{ℕ}
 use Rattle.number.specs.Parts.{Each}
 use Rattle.map.specs.declared.Map.{Map}
-use Rattle.plain.specs.Call.{done, refusal}
+use Rattle.plain.specs.Call.{record-literal, valid-read, done, refusal}
 use Rattle.shadows.specs.Shadows.{zeroShadows}
-use Rattle.origins_list.specs.Call.{point, copy, live}
+use Rattle.origins_list.specs.Call.{plain, point, copy, live}
 use Rattle.cells_layout.specs.Cells.{noCells}
 use Rattle.calls_format.specs.Records as records
 use Rattle.calls_format.specs.Records.{newMap, call}
@@ -30,12 +30,17 @@ decoded =
     (headed 12 11, some (call (point 8192 67305985)))
     ∷ (headed 12 12, some (call (copy 8192 67305985)))
     ∷ (headed 12 13, some (call (live 8192 67305985)))
+    -- plain kinds with the same fields, one of them with one more
+    ∷ (headed 12 14, some (call (plain (record-literal 8192 67305985))))
+    ∷ (headed 16 15 ++ (0 ∷ 32 ∷ 0 ∷ 0 ∷ []), some (call (plain (valid-read 8192 67305985 8192))))
     -- another length than the kind's; kinds before and after
     ∷ (headed 11 11, none)
     ∷ (headed 13 12, none)
     ∷ (headed 8 13, none)
     ∷ (headed 16 13, none)
-    ∷ (headed 12 14, none)
+    ∷ (headed 16 14, none)
+    ∷ (headed 12 15, none)
+    ∷ (headed 12 16, none)
     ∷ (headed 12 0, none)
     -- cut
     ∷ (12 ∷ 0 ∷ 11 ∷ 0 ∷ 0 ∷ 32 ∷ 0 ∷ 0 ∷ 1 ∷ 2 ∷ 3 ∷ [], none)

@@ -52,10 +52,13 @@ fn update_of(s: &[u8], kind: u32) -> Update
     ensures { λ r. ⌜ records.call (updateOf r) ≡ records.requestOf kind (now (s .entry)) ⌝ }
 {
     match kind {
-        2 => Update::Record(Address(field(s, 0)), field(s, 1)),
         3 => Update::Free(Address(field(s, 0))),
         4 => Update::Written(Address(field(s, 0)), field(s, 1)),
-        _ => Update::RecordWritten(Address(field(s, 0)), field(s, 1)),
+        _ => Update::Begin(
+            calls_kinds::beginning_of(kind),
+            Address(field(s, 0)),
+            field(s, 1),
+        ),
     }
 }
 
@@ -66,7 +69,12 @@ fn query_of(s: &[u8], kind: u32) -> Query
 {
     match kind {
         5 => Query::Ask(Address(field(s, 0))),
-        6 => Query::Valid(Address(field(s, 0)), field(s, 1), Address(field(s, 2))),
+        6 | 15 => Query::Valid(
+            kind == 6,
+            Address(field(s, 0)),
+            field(s, 1),
+            Address(field(s, 2)),
+        ),
         7 => Query::Initialised(Address(field(s, 0)), field(s, 1)),
         8 => Query::Next(Address(field(s, 0))),
         _ => Query::Audit,

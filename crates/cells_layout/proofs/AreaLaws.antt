@@ -2,7 +2,6 @@
 -- are one law, over the half. Assumes nothing.
 use mathlib.Core.Path.{_≡_, refl, sym, ap, _∙_}
 use mathlib.Core.Bool.{Bool, true, false, cond, not, _&&_, false≢true}
-use mathlib.Core.List.{List}
 use Prim.Native.Nat.{ℕ, _+_, _*_, _-_, _/_, _%_, _≤_, _<_}
 use native.Mathlib.Omega.{arith}
 use native.Mathlib.Nat.{add-sub-cancel-left}
@@ -13,7 +12,7 @@ use Rattle.number.specs.Little.{Bytes, byteOf}
 use Rattle.number.specs.Parts.{at, tab, inPart}
 use Rattle.number.proofs.TestLaws.{and-true, same-test, false-of, eqb-same, in-true, in-facts}
 use Rattle.number.proofs.LittleLaws.{byteOf-lt, byteOf-zero, bytes-tab, word-of}
-use Rattle.number.proofs.PartLaws.{length-tab, at-tab, tab-ext, tab-zero, length-over, over-tab}
+use Rattle.number.proofs.PartLaws.{length-tab, at-tab, tab-ext, tab-zero, over-tab}
 use Rattle.origins_list.specs.Cells.{Held, empty, put, touches, cut, cellOf, Small}
 use Rattle.cells_layout.specs.Area.{originPlace, referentPlace, halfAt, setHalf, zeroCells, areaImage}
 
@@ -136,14 +135,6 @@ cut-byte s es f g b l h n q =
 pub length-area : (s z : ℕ) (f g : Held) → length (areaImage s z f g) ≡ 2 * z
 unfolding areaImage
 length-area s z f g = length-tab 0 (2 * z) _
-
-pub length-setHalf : (h : List ℕ) (q v : ℕ) → length (setHalf h q v) ≡ length h
-unfolding setHalf
-length-setHalf h q v = length-over q 4 _ h
-
-pub length-zeroCells : (h : List ℕ) (p l : ℕ) → length (zeroCells h p l) ≡ length h
-unfolding zeroCells
-length-zeroCells h p l = length-over (p / 4 * 8) (((p + l + 3) / 4 - p / 4) * 8) _ h
 
 -- ---- the image
 

@@ -1,6 +1,6 @@
 -- What the calls that write alter, proved: see specs/Alters.antt for what each says. Assumes nothing.
 use mathlib.Core.Path.{_≡_, refl, sym, ap, _∙_}
-use mathlib.Core.Bool.{Bool, true, false, cond, true≢false}
+use mathlib.Core.Bool.{true, false, cond, true≢false}
 use mathlib.Core.List.{List, [], _∷_}
 use Prim.Native.Nat.{ℕ, zero, suc, _+_, _*_, _-_, _≤_, _<_}
 use native.Mathlib.Omega.{arith}
@@ -12,14 +12,15 @@ use Rattle.number.proofs.PartLaws.{length-over, at-tab-out}
 use Rattle.map.specs.declared.Map.{Map}
 use Rattle.map.specs.Map.{goodMap}
 use Rattle.map.proofs.MapLaws.{Good, good-true, within-true, true-within}
-use Rattle.plain.specs.Block.{Block, len, begun}
+use Rattle.plain.specs.declared.Beginning.{Beginning}
+use Rattle.plain.specs.Block.{Block, len, startsWritten, begun}
 use Rattle.plain.specs.Rules.{Placed}
 use Rattle.plain.specs.Areas.{segments, heapRules, stackRules, mapRules}
 use Rattle.plain.specs.Reading.{Reading, nothing, block, damaged}
 use Rattle.plain.specs.Lift.{readingUp, down}
 use Rattle.plain.specs.Join.{only}
 use Rattle.plain.specs.Ops.{markRange, readAny}
-use Rattle.plain.specs.Call.{Call, clear, record-block, begin, free, written, ask, valid, initialised, next, audit, number, firstOf, unless}
+use Rattle.plain.specs.Call.{Call, clear, begin, free, written, ask, valid, initialised, next, audit, firstOf, unless}
 use Rattle.plain.specs.ShadowCalls.{lengthOf, inOne, shadowsAfter, shadowAnswer}
 use Rattle.heap_layout.specs.Reading.{heapReading}
 use Rattle.plain.proofs.AreaLaws.{heap-shifted, stack-shifted}
@@ -71,7 +72,7 @@ free-zeroes m x s e q =
 
 -- ---- record
 
-module _ (m : Map) (w : Bool) (b l : ℕ) (s : Shadows) (ok : goodMap m ≡ true) (f : Fit m s) (t : Stands (mapRules m) (begun w b l)) where
+module _ (m : Map) (w : Beginning) (b l : ℕ) (s : Shadows) (ok : goodMap m ≡ true) (f : Fit m s) (t : Stands (mapRules m) (begun w b l)) where
   abbrev heapBlocks : List Block
   heapBlocks = down (m .«heap_start») (begun w b l) ∷ []
 
@@ -93,6 +94,7 @@ module _ (m : Map) (w : Bool) (b l : ℕ) (s : Shadows) (ok : goodMap m ≡ true
         some = t .some;
         fits = H .s-fits b (len (begun w b l)) u .1;
         aligned = H .s-aligned b (len (begun w b l)) u (rw h at (t .aligned));
+        proper = λ x. (rw h at (t .proper x .0), t .proper x .1);
         room = omega arith;
         later = tt;
       }
@@ -112,7 +114,7 @@ module _ (m : Map) (w : Bool) (b l : ℕ) (s : Shadows) (ok : goodMap m ≡ true
   stack-placed h =
       let H = stack-shifted (m .«stack_start») (m .«stack_size») in
       let u : stackRules (m .«stack_start») (m .«stack_size») .fits b (len (begun w b l)) ≡ true = rw h at (t .fits) in
-      record { some = t .some; fits = H .s-fits b (len (begun w b l)) u .1; aligned = refl; room = omega arith; later = tt }
+      record { some = t .some; fits = H .s-fits b (len (begun w b l)) u .1; aligned = refl; proper = λ x. (refl, t .proper x .1); room = omega arith; later = tt }
 
   stack-byte : inHeap m b ≡ false → (own : Block → ℕ → ℕ) (q : ℕ) → at (tab 0 (m .«stack_size») (byBlock own stackBlocks)) q ≡ byBlock own stackBlocks q
   stack-byte h own q = ap (λ (x : ℕ → ℕ). x q) (stack.at-image (m .«stack_size») stackBlocks (stack-placed h) own)
@@ -125,7 +127,7 @@ module _ (m : Map) (w : Bool) (b l : ℕ) (s : Shadows) (ok : goodMap m ≡ true
   stamped q = go q (test (inHeap m b))
     where
       ln : len (begun w b l) ≡ l
-      ln = length-replicate l w
+      ln = length-replicate l (startsWritten w)
 
       go : (q : Place) → Test (inHeap m b)
           → byteAt (shadowOps m .stamp s (begun w b l)) q ≡ cond (inPlace m b l q) (byteAt (image m (begun w b l ∷ [])) q) (byteAt s q)
@@ -143,9 +145,8 @@ module _ (m : Map) (w : Bool) (b l : ℕ) (s : Shadows) (ok : goodMap m ≡ true
 
 pub record-stamps : RecordStamps
 record-stamps m w b l s e q =
-    let e′ : number ((call m (record-block b l) s) .1) ≡ 0 = number-first m (record-block b l) s ∙ sym (number-first m (begin w b l) s) ∙ e in
-    let A = begun.accepted m b l s e′ in
-    rw (begun.began m b l s e′ w) (stamped m w b l s (A .good) (A .fit) (begun.stands m b l s e′ w) q)
+    let A = begun.accepted m w b l s e in
+    rw (begun.began m w b l s e) (stamped m w b l s (A .good) (A .fit) (begun.stands m w b l s e) q)
 
 -- ---- written
 
@@ -175,7 +176,7 @@ module _ (m : Map) (a n : ℕ) (s : Shadows) (e : numberOf m (written a n) s ≡
     where
       up : (z : ℕ) (r : Reading) → inOne n (readingUp z r) ≡ true → inOne n r ≡ true
       up z nothing i = i
-      up z (block b l o w) i = i
+      up z (block b l o w t) i = i
       up z damaged i = i
 
       go : Test (inHeap m a) → Test (inStack m a) → mapRules m .inside y ≡ true
@@ -257,7 +258,7 @@ module _ (m : Map) where
   after-long (free (suc x)) s f = erase-long s (suc x) (lengthOf (readAny (mapRules m) (shadowOps m) s (suc x)))
   after-long (written a n) s f = range-long n a s
   after-long (ask a) s f = (refl, refl, refl)
-  after-long (valid a n from) s f = (refl, refl, refl)
+  after-long (valid w a n from) s f = (refl, refl, refl)
   after-long (initialised a n) s f = (refl, refl, refl)
   after-long (next a) s f = (refl, refl, refl)
   after-long audit s f = (refl, refl, refl)

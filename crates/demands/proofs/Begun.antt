@@ -1,28 +1,36 @@
--- The two ways to record, proved: see specs/Begun.antt for what each says. Assumes nothing.
+-- The ways to record, proved: see specs/Begun.antt for what each says. Assumes nothing.
 use mathlib.Core.Path.{_≡_, refl, sym, _∙_}
-use mathlib.Core.Bool.{Bool, true, false}
+use mathlib.Core.Bool.{true, false, not, _&&_}
+use mathlib.Core.List.{List, _++_}
 use Prim.Native.Nat.{ℕ, zero, suc, _-_, _≤_}
 use native.Mathlib.Omega.{arith}
 use lib.ListN.{length-replicate}
 use borrow.Author.Tests.{not-false, eqb-false, ne-eqb}
 use Rattle.number.specs.Bits.{bit}
+use Rattle.number.proofs.TestLaws.{and-true}
 use Rattle.map.specs.declared.Map.{Map}
 use Rattle.map.specs.Map.{goodMap}
-use Rattle.plain.specs.Block.{begun}
+use Rattle.plain.specs.declared.Beginning.{Beginning}
+use Rattle.plain.specs.declared.Beginning.the-variants.{Unwritten, Written, Literal}
+use Rattle.plain.specs.Block.{Block, startsWritten, startsLiteral, begun}
+use Rattle.plain.specs.Blocks.{insert}
+use Rattle.plain.specs.Rules.{Proper}
 use Rattle.plain.specs.Areas.{mapRules}
 use Rattle.plain.specs.Reading.{Reading, nothing, block, damaged}
-use Rattle.plain.specs.PlainList.{plainStep}
+use Rattle.plain.specs.PlainList.{byList, plainStep}
 use Rattle.plain.specs.Ops.{readAny}
-use Rattle.plain.specs.Call.{begin, record-block, record-written, written, ask, answer, number, done, firstOf, unless}
-use Rattle.plain.specs.ShadowCalls.{inOne, isDamaged, shadowStep}
+use Rattle.plain.specs.Call.{begin, record-block, record-written, written, number, done, firstOf, unless, allows, byRules}
+use Rattle.plain.specs.ShadowCalls.{inOne, isDamaged, isLiteral, shadowStep}
 use Rattle.plain.proofs.KeptLaws.{base-inside}
-use Rattle.plain.proofs.BegunLaws.{begin-written, begin-ask}
+use Rattle.plain.proofs.BegunLaws.{begin-written, begin-ask, begin-valid}
+use Rattle.plain.proofs.RunLaws.{begun-proper}
+use Rattle.plain.proofs.RunLaws as list
 use Rattle.plain.proofs.StampedLaws.{Stands, begin-marked}
 use Rattle.shadows.specs.Shadows.{Shadows, lengthsFit, shadowOps}
 use Rattle.shadows.proofs.ShadowLaws.{Fit, fit-true, true-fit, map-sound, shadow-stamped}
 use Rattle.monitor_base.specs.Calls.{refusals, call}
 use Rattle.monitor_base.proofs.CallLaws.{call-step}
-use Rattle.demands.specs.Begun.{AnswersOfRecord, RecordThenWritten, ListThenWritten, ListStarts}
+use Rattle.demands.specs.Begun.{AnswersOfRecord, RecordThenWritten, ListThenWritten, Starts, ListStarts}
 use Rattle.demands.proofs.Numbers.{number-first, misplaced-words, unaligned-words}
 use Rattle.demands.proofs.Demand1.{accepted-exactly}
 
@@ -30,12 +38,12 @@ pub answers-of-record : AnswersOfRecord
 unfolding call
 answers-of-record m b l s = go (firstOf (refusals m (record-block b l) s)) _ _
   where
-    -- the refusals do not ask how the block begins
+    -- the refusals ask no more of how the block begins than whether it is a literal
     go : (k : ℕ) (t u : Shadows) → (unless k s (t, done)) .1 ≡ (unless k s (u, done)) .1
     go zero t u = refl
     go (suc k) t u = refl
 
-module _ (m : Map) (b l : ℕ) (s : Shadows) (e : number ((call m (record-block b l) s) .1) ≡ 0) where
+module _ (m : Map) (h : Beginning) (b l : ℕ) (s : Shadows) (e : number ((call m (begin h b l) s) .1) ≡ 0) where
   -- what an accepted recording says of map, lengths and block
   pub record Accepted : Type 0 where
     pub good : goodMap m ≡ true
@@ -43,64 +51,94 @@ module _ (m : Map) (b l : ℕ) (s : Shadows) (e : number ((call m (record-block 
     pub some : 1 ≤ l
     pub fits : mapRules m .fits b l ≡ true
     pub aligned : mapRules m .aligned b ≡ true
+    pub proper : Proper (mapRules m) (begun h b l)
 
   pub accepted : Accepted
   accepted =
-      let h = accepted-exactly m (record-block b l) s .1 e in
+      let k = accepted-exactly m (begin h b l) s .1 e in
+      let a = and-true (mapRules m .fits b l) (not (startsLiteral h && mapRules m .heap b))
+      (not-false (allows (mapRules m) h b l) (misplaced-words m h b l ∙ k .1 .1 .1 .0)) in
       record {
-        good = not-false (goodMap m) (h .0);
-        fit = fit-true m s (not-false (lengthsFit m s) (h .1 .0));
-        some = omega (arith, eqb-false l 0 (h .1 .1 .0));
-        fits = not-false (mapRules m .fits b l) (misplaced-words m b l ∙ h .1 .1 .1 .0);
-        aligned = not-false (mapRules m .aligned b) (unaligned-words m b ∙ h .1 .1 .1 .1 .0);
+        good = not-false (goodMap m) (k .0);
+        fit = fit-true m s (not-false (lengthsFit m s) (k .1 .0));
+        some = omega (arith, eqb-false l 0 (k .1 .1 .0));
+        fits = a .0;
+        aligned = not-false (mapRules m .aligned b) (unaligned-words m b ∙ k .1 .1 .1 .1 .0);
+        proper = begun-proper (mapRules m) h b l (a .1);
       }
 
-  pub stands : (w : Bool) → Stands (mapRules m) (begun w b l)
-  stands w = let n = length-replicate l w in record { some = rw n (accepted .some); fits = rw n (accepted .fits); aligned = accepted .aligned }
+  pub stands : Stands (mapRules m) (begun h b l)
+  stands =
+      let n = length-replicate l (startsWritten h) in
+      record { some = rw n (accepted .some); fits = rw n (accepted .fits); aligned = accepted .aligned; proper = accepted .proper }
 
-  pub began : (w : Bool) → call m (begin w b l) s ≡ (shadowOps m .stamp s (begun w b l), done)
+  pub began : call m (begin h b l) s ≡ (shadowOps m .stamp s (begun h b l), done)
   unfolding call
-  began w = let z : firstOf (refusals m (record-block b l) s) ≡ 0 = sym (number-first m (record-block b l) s) ∙ e in rw z
+  began = let z : firstOf (refusals m (begin h b l) s) ≡ 0 = sym (number-first m (begin h b l) s) ∙ e in rw z
 
   -- the block is there, and its bytes lie in it
-  undamaged : (r : Reading) → inOne l r ≡ true → isDamaged r ≡ false
-  undamaged nothing i = refl
-  undamaged (block x y o w) i = refl
-  undamaged damaged i = sym i
-
-  there : inOne l (readAny (mapRules m) (shadowOps m) (shadowOps m .stamp s (begun false b l)) b) ≡ true
+  there : inOne l (readAny (mapRules m) (shadowOps m) (shadowOps m .stamp s (begun h b l)) b) ≡ true
   unfolding readAny
   there =
       let ok = accepted .good in
       rw (base-inside (mapRules m) (map-sound m ok) b l (accepted .some) (accepted .fits))
-      (rw (length-replicate l false) at (shadow-stamped m ok .stamp-read s (accepted .fit) (begun false b l) (stands false)))
+      (rw (length-replicate l (startsWritten h)) at (shadow-stamped m ok .stamp-read s (accepted .fit) (begun h b l) stands))
+
+-- a reading of a block is not damaged
+undamaged : (l : ℕ) (r : Reading) → inOne l r ≡ true → isDamaged r ≡ false
+undamaged l nothing i = refl
+undamaged l (block x y o w t) i = refl
+undamaged l damaged i = sym i
+
+module _ (m : Map) (b l : ℕ) (s : Shadows) (e : number ((call m (record-block b l) s) .1) ≡ 0) where
+  e′ : number ((call m (record-written b l) s) .1) ≡ 0
+  e′ = number-first m (record-written b l) s ∙ sym (number-first m (record-block b l) s) ∙ e
+
+  abbrev after : Shadows
+  after = shadowOps m .stamp s (begun Unwritten b l)
+
+  plainly : isLiteral (readAny (mapRules m) (shadowOps m) after b) ≡ false
+  unfolding readAny
+  plainly =
+      let A = accepted m Unwritten b l s e in
+      rw (base-inside (mapRules m) (map-sound m (A .good)) b l (A .some) (A .fits))
+      (shadow-stamped m (A .good) .stamp-literal s (A .fit) (begun Unwritten b l) (stands m Unwritten b l s e))
 
   pub written-after : call m (written b l) ((call m (record-block b l) s) .0) ≡ ((call m (record-written b l) s) .0, done)
   unfolding shadowStep
   written-after =
-      let ok = accepted .good in
-      let after : Shadows = shadowOps m .stamp s (begun false b l) in
-      let fits : lengthsFit m after ≡ true = true-fit m after (shadow-stamped m ok .stamp-fit s (accepted .fit) (begun false b l)) in
+      let A = accepted m Unwritten b l s e in
+      let ok = A .good in
+      let t = there m Unwritten b l s e in
+      let fits : lengthsFit m after ≡ true = true-fit m after (shadow-stamped m ok .stamp-fit s (A .fit) (begun Unwritten b l)) in
       rw (
-        began false,
-        began true,
+        began m Unwritten b l s e,
+        began m Written b l s e′,
         call-step m (written b l) after ok fits,
-        ne-eqb l 0 (omega (arith, accepted .some)),
-        base-inside (mapRules m) (map-sound m ok) b l (accepted .some) (accepted .fits),
-        undamaged (readAny (mapRules m) (shadowOps m) after b) there,
-        there,
-        begin-marked (mapRules m) (shadowOps m) (Fit m) (shadow-stamped m ok) s (accepted .fit) false b l (stands false),
+        ne-eqb l 0 (omega (arith, A .some)),
+        base-inside (mapRules m) (map-sound m ok) b l (A .some) (A .fits),
+        undamaged l (readAny (mapRules m) (shadowOps m) after b) t,
+        t,
+        plainly,
+        begin-marked (mapRules m) (shadowOps m) (Fit m) (shadow-stamped m ok) s (A .fit) Unwritten refl b l (stands m Unwritten b l s e),
       )
 
 pub record-then-written : RecordThenWritten
 record-then-written m b l s e = written-after m b l s e
 
+joined : (m : Map) (bs : List Block) (b l : ℕ) → number ((plainStep (mapRules m) (record-block b l) bs) .1) ≡ 0
+    → (plainStep (mapRules m) (record-written b l) bs) .0 ≡ insert (begun Written b l) bs
+unfolding plainStep
+joined m bs b l e =
+    let z : firstOf (byRules (mapRules m) (record-block b l) ++ byList (mapRules m) (record-block b l) bs) ≡ 0 =
+    sym (list.number-first (mapRules m) (record-block b l) bs) ∙ e in
+    rw z
+
 pub list-then-written : ListThenWritten
-list-then-written m ok bs P b l e = begin-written (mapRules m) (map-sound m ok) false b l bs P e
+list-then-written m ok bs P b l e = begin-written (mapRules m) (map-sound m ok) Unwritten refl b l bs P e ∙ rw (joined m bs b l e)
 
 pub list-starts : ListStarts
-list-starts m ok bs P b l x p q = (λ e. starts false e, λ e. starts true e)
+list-starts m ok bs P b l x p q = (λ e. starts Unwritten e, λ e. starts Written e, λ e. starts Literal e)
   where
-    starts : (w : Bool) → number ((plainStep (mapRules m) (begin w b l) bs) .1) ≡ 0
-        → (plainStep (mapRules m) (ask x) ((plainStep (mapRules m) (begin w b l) bs) .0)) .1 ≡ answer 0 b l (x - b) (bit w)
-    starts w e = begin-ask (mapRules m) (map-sound m ok) w b l bs P e x p q
+    starts : (h : Beginning) → Starts m bs (begin h b l) b l x (bit (startsWritten h)) (bit (not (startsLiteral h)))
+    starts h e = (begin-ask (mapRules m) (map-sound m ok) h b l bs P e x p q, begin-valid (mapRules m) (map-sound m ok) h b l bs P e x p q)

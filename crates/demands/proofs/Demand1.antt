@@ -14,7 +14,7 @@ use Rattle.plain.specs.ShadowCalls.{shadowsAfter, shadowAnswer}
 use Rattle.plain.proofs.AnswerLaws.{accepted-0}
 use Rattle.shadows.specs.Shadows.{Shadows, lengthsFit, shadowOps}
 use Rattle.monitor_base.specs.Calls.{refusals, call}
-use Rattle.demands.specs.Numbers.{isEmpty, isMisplaced, isUnaligned, isTaken, damageMet, blockMissed, rows}
+use Rattle.demands.specs.Numbers.{isEmpty, isMisplaced, isUnaligned, isTaken, damageMet, blockMissed, intoLiteral, rows}
 use Rattle.demands.specs.Demand1.{isQuestion, RefusedAltersNothing, QuestionsAlterNothing, ByTheTable, AcceptedExactly, LowestWins, ItsRowHolds, SevenWithoutEight, EightOnlyThere, EightThere}
 use Rattle.demands.proofs.Numbers.{by-rows}
 use Rattle.demands.proofs.RowLaws.{Ascending, passed, first-none, none-first, lowest, first-holds, late}
@@ -40,11 +40,11 @@ questions-alter-nothing m c s q = go c q
 
     go : (c : Call) → isQuestion c ≡ true → (call m c s) .0 ≡ s
     go clear q = absurd (false≢true q)
-    go (begin w b l) q = absurd (false≢true q)
+    go (begin h b l) q = absurd (false≢true q)
     go (free x) q = absurd (false≢true q)
     go (written a n) q = absurd (false≢true q)
     go (ask a) q = same (firstOf (refusals m (ask a) s)) _
-    go (valid a n from) q = same (firstOf (refusals m (valid a n from) s)) _
+    go (valid w a n from) q = same (firstOf (refusals m (valid w a n from) s)) _
     go (initialised a n) q = same (firstOf (refusals m (initialised a n) s)) _
     go (next a) q = same (firstOf (refusals m (next a) s)) _
     go audit q = same (firstOf (refusals m audit s)) _
@@ -56,7 +56,7 @@ by-the-table = by-rows
 
 ascending : (m : Map) (c : Call) (s : Shadows) → Ascending 0 (rows m c s)
 ascending m c s =
-    (omega arith, (omega arith, (omega arith, (omega arith, (omega arith, (omega arith, (omega arith, (omega arith, tt))))))))
+    (omega arith, (omega arith, (omega arith, (omega arith, (omega arith, (omega arith, (omega arith, (omega arith, (omega arith, tt)))))))))
 
 pub accepted-exactly : AcceptedExactly
 accepted-exactly m c s = (
@@ -79,46 +79,47 @@ abbrev early : Map → Call → Shadows → List Refusal
 early m c s =
     (1, not (goodMap m)) ∷ (2, not (lengthsFit m s)) ∷ (3, isEmpty c) ∷ (4, isMisplaced m c) ∷ (5, isUnaligned m c) ∷ (6, isTaken m c s) ∷ []
 
--- 7 and 8
+-- 7, 8 and 13
 abbrev last : Map → Call → Shadows → List Refusal
-last m c s = (7, blockMissed m c s && not (damageMet m c s)) ∷ (8, damageMet m c s) ∷ []
+last m c s = (7, blockMissed m c s && not (damageMet m c s)) ∷ (8, damageMet m c s) ∷ (13, intoLiteral m c s) ∷ []
 
 below : (m : Map) (c : Call) (s : Shadows) (n : ℕ) → 7 ≤ n → Each (λ (r : Refusal). r .0 ≢ n) (early m c s)
 below m c s n h = (omega arith, (omega arith, (omega arith, (omega arith, (omega arith, (omega arith, tt))))))
 
-seven : (n d : Bool) → _≡_ {A = ℕ} (cond (n && not d) 7 (cond d 8 0)) 7 → d ≡ false
-seven n false e = refl
-seven true true e = absurd (omega arith)
-seven false true e = absurd (omega arith)
+seven : (n d t : Bool) → _≡_ {A = ℕ} (cond (n && not d) 7 (cond d 8 (cond t 13 0))) 7 → d ≡ false
+seven n false t e = refl
+seven true true t e = absurd (omega arith)
+seven false true t e = absurd (omega arith)
 
-eight : (n d : Bool) → _≡_ {A = ℕ} (cond (n && not d) 7 (cond d 8 0)) 8 → d ≡ true
-eight n true e = refl
-eight true false e = absurd (omega arith)
-eight false false e = absurd (omega arith)
+eight : (n d t : Bool) → _≡_ {A = ℕ} (cond (n && not d) 7 (cond d 8 (cond t 13 0))) 8 → d ≡ true
+eight n true t e = refl
+eight true false t e = absurd (omega arith)
+eight false false true e = absurd (omega arith)
+eight false false false e = absurd (omega arith)
 
-is-eight : (n d : Bool) → d ≡ true → _≡_ {A = ℕ} (cond (n && not d) 7 (cond d 8 0)) 8
-is-eight true true e = refl
-is-eight false true e = refl
-is-eight n false e = absurd (false≢true e)
+is-eight : (n d : Bool) (r : ℕ) → d ≡ true → _≡_ {A = ℕ} (cond (n && not d) 7 (cond d 8 r)) 8
+is-eight true true r e = refl
+is-eight false true r e = refl
+is-eight n false r e = absurd (false≢true e)
 
 pub seven-without-eight : SevenWithoutEight
 seven-without-eight m c s e =
-    seven (blockMissed m c s) (damageMet m c s)
+    seven (blockMissed m c s) (damageMet m c s) (intoLiteral m c s)
     (late (early m c s) (last m c s) 7 (below m c s 7 (omega arith)) (sym (by-rows m c s) ∙ e))
 
 pub eight-only-there : EightOnlyThere
 eight-only-there m c s e =
-    eight (blockMissed m c s) (damageMet m c s)
+    eight (blockMissed m c s) (damageMet m c s) (intoLiteral m c s)
     (late (early m c s) (last m c s) 8 (below m c s 8 (omega arith)) (sym (by-rows m c s) ∙ e))
 
 -- 5 and 6 are record's alone, which has no 8
 no-record : (m : Map) (c : Call) (s : Shadows) → damageMet m c s ≡ true → (isUnaligned m c ≡ false) × (isTaken m c s ≡ false)
 no-record m clear s d = (refl, refl)
-no-record m (begin w b l) s d = absurd (false≢true d)
+no-record m (begin h b l) s d = absurd (false≢true d)
 no-record m (free x) s d = (refl, refl)
 no-record m (written a n) s d = (refl, refl)
 no-record m (ask a) s d = (refl, refl)
-no-record m (valid a n from) s d = (refl, refl)
+no-record m (valid w a n from) s d = (refl, refl)
 no-record m (initialised a n) s d = (refl, refl)
 no-record m (next a) s d = (refl, refl)
 no-record m audit s d = (refl, refl)
@@ -128,4 +129,4 @@ eight-there m c s ok fit e p d =
     let n = no-record m c s d in
     by-rows m c s
     ∙ passed (early m c s) (last m c s) (rw ok, (rw fit, (e, (p, (n .0, (n .1, tt))))))
-    ∙ is-eight (blockMissed m c s) (damageMet m c s) d
+    ∙ is-eight (blockMissed m c s) (damageMet m c s) _ d

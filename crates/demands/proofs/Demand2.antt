@@ -1,26 +1,28 @@
 -- Demand 2, proved: see specs/Demand2.antt for what each says. Assumes nothing.
 use mathlib.Core.Path.{_≡_, refl, sym, ap, _∙_, fun-ext}
-use mathlib.Core.Bool.{Bool, true, false, cond, not, _||_, true≢false}
+use mathlib.Core.Bool.{Bool, true, false, cond, not, _&&_, _||_, true≢false}
 use mathlib.Core.List.{List, [], _∷_}
 use mathlib.Core.Option.{Option, none, some}
-use Prim.Native.Nat.{ℕ, zero, suc}
+use Prim.Native.Nat.{ℕ, zero, suc, _+_, _-_}
 use native.Mathlib.Omega.{arith}
-use borrow.Author.Tests.{not-true, not-false}
+use borrow.Author.Tests.{le-leb, eq-eqb, not-true, not-false}
+use Rattle.number.specs.Bits.{bit}
 use Rattle.number.proofs.TestLaws.{Test, is-true, is-false, test}
 use Rattle.map.specs.declared.Map.{Map}
 use Rattle.map.specs.Map.{goodMap}
 use Rattle.map.proofs.MapLaws.{good-true, within-true}
 use Rattle.plain.specs.Areas.{mapRules}
-use Rattle.plain.specs.Block.{Block, len, contains}
+use Rattle.plain.specs.Block.{Block, len, contains, isWritten}
 use Rattle.plain.specs.Blocks.{find, total, count}
 use Rattle.plain.specs.Rules.{Placed}
 use Rattle.plain.specs.Reading.{Reading, nothing, block, damaged, Tally, says, lookup}
 use Rattle.plain.specs.Ops.{readAny}
 use Rattle.plain.specs.ReadBack.{collect}
-use Rattle.plain.specs.Call.{ask, audit, Answer, answer, number, refusal, firstOf, unless}
+use Rattle.plain.specs.Call.{ask, valid-write, audit, Answer, answer, yesNo, number, refusal, firstOf, unless}
 use Rattle.plain.specs.PlainList.{plainStep}
-use Rattle.plain.specs.ShadowCalls.{isDamaged, isBlock, isNone, askAnswer, auditAnswer, shadowStep}
-use Rattle.plain.proofs.FindLaws.{none-outside}
+use Rattle.plain.specs.ShadowCalls.{isDamaged, isBlock, inOne, isLiteral, sameBlock, isNone, askAnswer, auditAnswer, shadowStep}
+use Rattle.plain.proofs.BlockLaws.{contains-true}
+use Rattle.plain.proofs.FindLaws.{find-facts, none-outside}
 use Rattle.plain.proofs.KeptLaws.{base-inside}
 use Rattle.plain.proofs.ReadBackLaws.{image-reads, collect-lookup}
 use Rattle.plain.proofs.ImageLaws as laws
@@ -31,7 +33,7 @@ use Rattle.shadows.proofs.ByteLaws.{image-bytes}
 use Rattle.monitor_base.specs.Calls.{refusals, call}
 use Rattle.monitor_base.proofs.CallLaws.{call-step}
 use Rattle.demands.specs.Addresses.{inHeap, inStack, outside, endOfAreas, readingAt}
-use Rattle.demands.specs.Demand2.{asked, blockTold, listTold, totalsOf, AskReads, NineBytes, ImageShape, OneImage, AuditAccepts, AuditOnly, AuditRefuses, ReadBack, MadeOf}
+use Rattle.demands.specs.Demand2.{asked, blockTold, toldAt, listTold, totalsOf, AskReads, NineBytes, ImageShape, OneImage, AuditAccepts, AuditOnly, AuditRefuses, ReadBack, MadeOf}
 use Rattle.demands.proofs.Demand1.{accepted-exactly}
 use Rattle.demands.proofs.Demand3.{on-every-image}
 use Rattle.demands.proofs.Numbers.{outside-words, reading-words}
@@ -46,7 +48,7 @@ ask-reads m s ok fit a = call-step m (ask a) s ok fit ∙ rw (outside-words m a,
         → unless (cond t 4 (cond (isDamaged r) 8 (cond (not (isBlock r)) 7 0))) s (s, askAnswer r) ≡ (s, cond t (refusal 4) (asked r))
     go true r = refl
     go false nothing = refl
-    go false (block b l o w) = refl
+    go false (block b l o w t) = refl
     go false damaged = refl
 
 pub nine-bytes : NineBytes
@@ -145,16 +147,39 @@ pub image-listed : (m : Map) → goodMap m ≡ true → (bs : List Block) → Pl
 image-listed m ok bs P a =
     sym (reading-words m (image m bs) a) ∙ image-reads (mapRules m) (map-sound m ok) (shadowOps m) (image m) (shadow-images m ok) bs P a
 
--- and so is what ask tells of it
-pub image-told : (m : Map) → goodMap m ≡ true → (bs : List Block) → Placed (mapRules m) 0 bs → (a : ℕ) → blockTold ((call m (ask a) (image m bs)) .1) ≡ lookup bs a
+abbrev oneTold : Shadows → Reading → Answer
+oneTold s r =
+    (unless (cond (isDamaged r || isDamaged r) 8 0) s (s, yesNo (inOne 1 r && sameBlock r r && not (isLiteral r)))) .1
+
+-- what valid answers for one byte, by its reading
+valid-one : (m : Map) (s : Shadows) → goodMap m ≡ true → lengthsFit m s ≡ true → (a : ℕ)
+    → (call m (valid-write a 1 a) s) .1 ≡ oneTold s (readingAt m s a)
+unfolding shadowStep
+valid-one m s ok fit a = rw (call-step m (valid-write a 1 a) s ok fit, reading-words m s a)
+
+-- and so is what ask and valid tell of it
+pub image-told : (m : Map) → goodMap m ≡ true → (bs : List Block) → Placed (mapRules m) 0 bs → (a : ℕ) → toldAt m (image m bs) a ≡ lookup bs a
 image-told m ok bs P a =
-    rw (ask-reads m (image m bs) ok (image-fits m bs) a, image-listed m ok bs P a) (go (find (contains a) bs) (test (outside m a)) none-out)
+    rw (ask-reads m (image m bs) ok (image-fits m bs) a, valid-one m (image m bs) ok (image-fits m bs) a, image-listed m ok bs P a)
+    (go (find (contains a) bs) refl (test (outside m a)) none-out)
   where
-    go : (o : Option Block) → Test (outside m a) → (outside m a ≡ true → o ≡ none)
-        → blockTold (cond (outside m a) (answer 4 0 0 0 0) (asked (says a o))) ≡ says a o
-    go o (is-true t) n = rw (t, n t)
-    go none (is-false t) n = rw t
-    go (some b) (is-false t) n = rw t
+    tells : (b l o w : ℕ) (t : Bool) → blockTold (answer 0 b l o w) (answer 0 (bit (not t)) 0 0 0) ≡ block b l o w t
+    tells b l o w true = refl
+    tells b l o w false = refl
+
+    go : (o : Option Block) → find (contains a) bs ≡ o → Test (outside m a) → (outside m a ≡ true → o ≡ none)
+        → blockTold (cond (outside m a) (answer 4 0 0 0 0) (asked (says a o))) (oneTold (image m bs) (says a o)) ≡ says a o
+    go o e (is-true t) n = rw (t, n t)
+    go none e (is-false t) n = rw t
+    go (some b) e (is-false t) n =
+        let h = contains-true a b (find-facts (mapRules m) (map-sound m ok) bs 0 (contains a) b P e .so) in
+        rw (
+          t,
+          le-leb (a - b .base + 1) (len b) (omega arith),
+          eq-eqb (b .base) (b .base) refl,
+          eq-eqb (len b) (len b) refl,
+        )
+        (tells (b .base) (len b) (a - b .base) (bit (isWritten b a)) (b .literal))
 
     none-out : outside m a ≡ true → find (contains a) bs ≡ none
     none-out t = none-outside (mapRules m) (map-sound m ok) bs 0 a P (not-true (mapRules m .inside a) (outside-words m a ∙ t))

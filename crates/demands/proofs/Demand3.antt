@@ -1,7 +1,7 @@
 -- Demand 3, proved: see specs/Demand3.antt for what each says. Assumes nothing.
 use mathlib.Core.Path.{_≡_, refl, sym, ap, _∙_}
+use mathlib.Core.Logic.{_≢_}
 use mathlib.Core.List.{List, [], _∷_}
-use Prim.Native.Nat.{_<_}
 use Rattle.plain.specs.Rules.{Placed}
 use Rattle.plain.specs.Areas.{mapRules}
 use Rattle.plain.specs.Call.{clear, Answer, number, done}
@@ -9,7 +9,7 @@ use Rattle.plain.specs.ShadowCalls.{shadowStep}
 use Rattle.plain.specs.Run.{run}
 use Rattle.plain.specs.PlainList.{plainStep}
 use Rattle.plain.proofs.SameLaws.{step-same}
-use Rattle.plain.proofs.RunLaws.{keep, low, run-same, run-each}
+use Rattle.plain.proofs.RunLaws.{keep, never-8, run-same, run-each}
 use Rattle.shadows.specs.Shadows.{Shadows, shadowOps, zeroShadows, image}
 use Rattle.shadows.proofs.ShadowLaws.{image-fits, map-sound, shadow-images}
 use Rattle.monitor_base.specs.Calls.{call}
@@ -31,7 +31,7 @@ whole-run m ok cs =
     (keep (mapRules m) (map-sound m ok)) cs [] tt
 
 pub no-damage : NoDamage
-no-damage m ok cs = rw (whole-run m ok cs) (run-each (image m) (plainStep (mapRules m)) (λ a. number a < 8) (low (mapRules m)) cs [])
+no-damage m ok cs = rw (whole-run m ok cs) (run-each (image m) (plainStep (mapRules m)) (λ a. number a ≢ 8) (never-8 (mapRules m)) cs [])
 
 pub cleared-run : ClearedRun
 unfolding run shadowStep plainStep

@@ -4,6 +4,9 @@ pub mod Demand1
 pub mod Demand2
 pub mod Demand3
 pub mod Good
+pub mod Literals
+pub mod LiteralBits
+pub mod LiteralBegun
 pub mod MapSamples
 pub mod MarkLaws
 pub mod Null

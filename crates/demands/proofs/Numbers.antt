@@ -2,19 +2,19 @@
 use mathlib.Core.Path.{_≡_, refl, ap, _∙_, fun-ext}
 use mathlib.Core.Bool.{Bool, true, false, cond, not, _&&_, _||_, true≢false}
 use mathlib.Core.List.{_++_}
-use mathlib.Core.Option.{Option, none, some}
 use Prim.Native.Nat.{ℕ, zero, suc, _+_, _-_, _%_}
 use native.Mathlib.Omega.{arith}
 use lib.Dec.{leb, eqb}
 use borrow.Author.Tests.{ne-eqb}
 use Rattle.number.specs.Bits.{bit}
 use Rattle.map.specs.declared.Map.{Map}
+use Rattle.plain.specs.declared.Beginning.{Beginning}
+use Rattle.plain.specs.declared.Beginning.the-variants.{Unwritten, Written, Literal}
 use Rattle.plain.specs.Areas.{mapRules}
-use Rattle.plain.specs.Rules.{Rules}
-use Rattle.plain.specs.Ops.{Ops, readAny}
-use Rattle.plain.specs.Reading.{Reading, nothing, block, damaged, Tally, tally}
-use Rattle.plain.specs.Call.{Call, clear, begin, free, written, ask, valid, initialised, next, audit, number, firstOf, byRules}
-use Rattle.plain.specs.ShadowCalls.{isDamaged, isBlock, isFirst, climb, stop, askAnswer, nextAnswer, auditAnswer, reading, search, byShadows, shadowAnswer}
+use Rattle.plain.specs.Ops.{readAny}
+use Rattle.plain.specs.Reading.{Reading, nothing, block, damaged}
+use Rattle.plain.specs.Call.{Call, clear, begin, free, written, ask, valid, initialised, next, audit, number, firstOf, allows, byRules}
+use Rattle.plain.specs.ShadowCalls.{isDamaged, isBlock, isFirst, climb, stop, search, byShadows}
 use Rattle.plain.proofs.AnswerLaws.{accepted-0}
 use Rattle.plain.proofs.RunLaws.{unless-number}
 use Rattle.heap_layout.specs.Ops.{placeLength, heapVacant}
@@ -22,7 +22,7 @@ use Rattle.stack_layout.specs.Ops.{stackVacant}
 use Rattle.shadows.specs.Shadows.{Shadows, shadowOps}
 use Rattle.monitor_base.specs.Calls.{refusals, call}
 use Rattle.demands.specs.Addresses.{inHeap, inStack, outside, endOfAreas, readingAt}
-use Rattle.demands.specs.Numbers.{fitsArea, placeZero, damagedFirst, noneBegins, damageMet, blockMissed, rows}
+use Rattle.demands.specs.Numbers.{isMisplaced, placeZero, damagedFirst, noneBegins, damageMet, blockMissed, rows}
 use Rattle.demands.proofs.RowLaws.{pastTwo}
 
 -- ---- the first condition that holds
@@ -52,6 +52,20 @@ misfit false true x y false = refl
 misfit false false x y true = refl
 misfit false false x y false = refl
 
+pub and-right : (f : Bool) → (f && true) ≡ f
+and-right true = refl
+and-right false = refl
+
+-- a literal: any base of the heap is out of place
+elsewhere : (h k x y z : Bool) → not (cond h (x && y && h) (z && k) && not (cond h true false)) ≡ (h || (not h && not k) || not (cond h (x && y) z))
+elsewhere true k true true z = refl
+elsewhere true k true false z = refl
+elsewhere true k false y z = refl
+elsewhere false true x y true = refl
+elsewhere false true x y false = refl
+elsewhere false false x y true = refl
+elsewhere false false x y false = refl
+
 uneven : (h x : Bool) → not (cond h x true) ≡ (h && not x)
 uneven true x = refl
 uneven false x = refl
@@ -63,10 +77,28 @@ either false k x y = refl
 pub outside-words : (m : Map) (a : ℕ) → not (mapRules m .inside a) ≡ outside m a
 outside-words m a = neither (inHeap m a) (inStack m a)
 
-pub misplaced-words : (m : Map) (b l : ℕ) → not (mapRules m .fits b l) ≡ (outside m b || not (fitsArea m b l))
-misplaced-words m b l =
-    misfit (inHeap m b) (inStack m b) (leb (m .«heap_start» + 8) b) (leb (b + l) (m .«heap_start» + m .«heap_size»))
-    (leb (b + l) (m .«stack_start» + m .«stack_size»))
+pub misplaced-words : (m : Map) (how : Beginning) (b l : ℕ) → not (allows (mapRules m) how b l) ≡ isMisplaced m (begin how b l)
+misplaced-words m how b l = go how
+  where
+    h : Bool
+    h = inHeap m b
+
+    k : Bool
+    k = inStack m b
+
+    x : Bool
+    x = leb (m .«heap_start» + 8) b
+
+    y : Bool
+    y = leb (b + l) (m .«heap_start» + m .«heap_size»)
+
+    z : Bool
+    z = leb (b + l) (m .«stack_start» + m .«stack_size»)
+
+    go : (how : Beginning) → not (allows (mapRules m) how b l) ≡ isMisplaced m (begin how b l)
+    go Unwritten = ap not (and-right (mapRules m .fits b l)) ∙ misfit h k x y z
+    go Written = ap not (and-right (mapRules m .fits b l)) ∙ misfit h k x y z
+    go Literal = elsewhere h k x y z
 
 pub unaligned-words : (m : Map) (b : ℕ) → not (mapRules m .aligned b) ≡ (inHeap m b && not (eqb (b % 8) 0))
 unaligned-words m b = uneven (inHeap m b) (eqb (b % 8) 0)
@@ -90,8 +122,8 @@ module _ (rd : ℕ → Reading) where
       go : (r : Reading) → isDamaged (climb rd (suc a) n) ≡ damagedFirst rd (suc a) n
           → isDamaged (stop r (climb rd (suc a) n)) ≡ (isDamaged r || (not (isFirst r) && damagedFirst rd (suc a) n))
       go nothing ih = ih
-      go (block b l zero w) ih = refl
-      go (block b l (suc o) w) ih = rw (ne-eqb (suc o) 0 (omega arith)) ih
+      go (block b l zero w t) ih = refl
+      go (block b l (suc o) w t) ih = rw (ne-eqb (suc o) 0 (omega arith)) ih
       go damaged ih = refl
 
   -- where no damage is met before an answer, there is an answer unless no reading has offset 0
@@ -104,8 +136,8 @@ module _ (rd : ℕ → Reading) where
           → (damagedFirst rd (suc a) n ≡ false → not (isBlock (climb rd (suc a) n)) ≡ noneBegins rd (suc a) n)
           → not (isBlock (stop r (climb rd (suc a) n))) ≡ (not (isFirst r) && noneBegins rd (suc a) n)
       go nothing e ih = ih e
-      go (block b l zero w) e ih = refl
-      go (block b l (suc o) w) e ih = let z = ne-eqb (suc o) 0 (omega arith) in rw z (ih (rw z at e))
+      go (block b l zero w t) e ih = refl
+      go (block b l (suc o) w t) e ih = let z = ne-eqb (suc o) 0 (omega arith) in rw z (ih (rw z at e))
       go damaged e ih = absurd (true≢false e)
 
 pub search-words : (m : Map) (s : Shadows) (a : ℕ) → search (mapRules m) (shadowOps m) s a ≡ climb (readingAt m s) a (endOfAreas m - a)
@@ -113,33 +145,33 @@ search-words m s a = ap (λ (rd : ℕ → Reading). climb rd a (endOfAreas m - a
 
 -- ---- the rows
 
--- 8 before 7, or 7 where 8 does not hold before 8
-eight-first : (d n k : Bool) → (d ≡ false → n ≡ k) → _≡_ {A = ℕ} (cond d 8 (cond n 7 0)) (cond (k && not d) 7 (cond d 8 0))
-eight-first true n true h = refl
-eight-first true n false h = refl
-eight-first false n k h = rw (h refl) (go k)
+-- 8 before 7, or 7 where 8 does not hold before 8; r is what comes after both
+eight-first : (d n k : Bool) (r : ℕ) → (d ≡ false → n ≡ k) → _≡_ {A = ℕ} (cond d 8 (cond n 7 r)) (cond (k && not d) 7 (cond d 8 r))
+eight-first true n true r h = refl
+eight-first true n false r h = refl
+eight-first false n k r h = rw (h refl) (go k)
   where
-    go : (t : Bool) → _≡_ {A = ℕ} (cond t 7 0) (cond (t && true) 7 0)
+    go : (t : Bool) → _≡_ {A = ℕ} (cond t 7 r) (cond (t && true) 7 r)
     go true = refl
     go false = refl
 
--- the last two rows of a call that has 7 and 8
-last-two : (m : Map) (c : Call) (s : Shadows) (n : Bool) → (damageMet m c s ≡ false → n ≡ blockMissed m c s)
-    → _≡_ {A = ℕ} (cond (damageMet m c s) 8 (cond n 7 0)) (cond (blockMissed m c s && not (damageMet m c s)) 7 (cond (damageMet m c s) 8 0))
-last-two m c s n h = eight-first (damageMet m c s) n (blockMissed m c s) h
+-- the last rows of a call that has 7 and 8
+last-two : (m : Map) (c : Call) (s : Shadows) (n : Bool) (r : ℕ) → (damageMet m c s ≡ false → n ≡ blockMissed m c s)
+    → _≡_ {A = ℕ} (cond (damageMet m c s) 8 (cond n 7 r)) (cond (blockMissed m c s && not (damageMet m c s)) 7 (cond (damageMet m c s) 8 r))
+last-two m c s n r h = eight-first (damageMet m c s) n (blockMissed m c s) r h
 
 pub later-rows : (m : Map) (c : Call) (s : Shadows)
     → firstOf (byRules (mapRules m) c ++ byShadows (mapRules m) (shadowOps m) c s) ≡ firstOf (pastTwo (rows m c s))
 later-rows m clear s = refl
-later-rows m (begin w b l) s = rw (misplaced-words m b l, unaligned-words m b, taken-words m s b l)
+later-rows m (begin h b l) s = rw (misplaced-words m h b l, unaligned-words m b, taken-words m s b l)
 later-rows m (free zero) s = refl
-later-rows m (free (suc x)) s = rw (outside-words m (suc x), reading-words m s (suc x), last-two m (free (suc x)) s _ (λ d. refl))
-later-rows m (written a n) s = rw (outside-words m a, reading-words m s a, last-two m (written a n) s _ (λ d. refl))
-later-rows m (ask a) s = rw (outside-words m a, reading-words m s a, last-two m (ask a) s _ (λ d. refl))
-later-rows m (valid a n from) s = rw (reading-words m s a, reading-words m s from)
+later-rows m (free (suc x)) s = rw (outside-words m (suc x), reading-words m s (suc x), last-two m (free (suc x)) s _ 0 (λ d. refl))
+later-rows m (written a n) s = rw (outside-words m a, reading-words m s a, last-two m (written a n) s _ _ (λ d. refl))
+later-rows m (ask a) s = rw (outside-words m a, reading-words m s a, last-two m (ask a) s _ 0 (λ d. refl))
+later-rows m (valid w a n from) s = rw (reading-words m s a, reading-words m s from)
 later-rows m (initialised a n) s = rw (reading-words m s a)
 later-rows m (next a) s =
-    rw (search-words m s a, climb-damaged (readingAt m s) a (endOfAreas m - a), last-two m (next a) s _ (climb-none (readingAt m s) a (endOfAreas m - a)))
+    rw (search-words m s a, climb-damaged (readingAt m s) a (endOfAreas m - a), last-two m (next a) s _ 0 (climb-none (readingAt m s) a (endOfAreas m - a)))
 later-rows m audit s = refl
 
 same-rows : (m : Map) (c : Call) (s : Shadows) → firstOf (refusals m c s) ≡ firstOf (rows m c s)

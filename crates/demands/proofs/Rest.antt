@@ -8,10 +8,9 @@ use native.Mathlib.Omega.{arith}
 use lib.ListN.{length, take, drop, length-take}
 use lib.Dec.{leb, ltb, eqb}
 use borrow.Author.Tests.{lt-ltb, le-ltb, ltb-true, ltb-false}
-use Rattle.number.specs.Bits.{bit, ofBits}
+use Rattle.number.specs.Bits.{ofBits}
 use Rattle.number.specs.Parts.{at, tab}
 use Rattle.number.proofs.TestLaws.{Test, is-true, is-false, test, cond-both}
-use Rattle.number.proofs.BitLaws.{bit-lt}
 use Rattle.number.proofs.PartLaws.{at-tab, at-tab-out}
 use Rattle.plain.specs.Block.{Block, len, contains, isWritten}
 use Rattle.plain.specs.Layer.{layer}
@@ -19,7 +18,8 @@ use Rattle.plain.specs.Lift.{downs}
 use Rattle.plain.specs.Join.{only}
 use Rattle.plain.specs.Areas.{heapRules, stackRules}
 use Rattle.heap_layout.specs.Image.{Cell, free, header, segment, cellByte, own, segmentOf, heapByte, heapImage, covers}
-use Rattle.stack_layout.specs.Code.{codeOf, pieceOf, pieceByte, primaryOf, secondaryOf, shortCode}
+use Rattle.stack_layout.specs.Code.{codeOf, pieceOf, pieceByte, lowBits, primaryOf, secondaryOf, shortCode}
+use Rattle.stack_layout.proofs.CodeLaws.{low-lt}
 use Rattle.stack_layout.specs.Image.{primaryOwn, secondaryOwn, primaryByte, secondaryByte, stackImage}
 use Rattle.demands.specs.Demand2.{RestZero}
 
@@ -75,7 +75,7 @@ heap-rest size bs k i j h u v n = go (test (ltb (k * 8 + j) size))
 abbrev Far : ℕ → Type 0
 Far c = (c ≤ 36) ⊎ (48 + 8 ≤ c)
 
-own-rest : (L i w : ℕ) → w < 2 → Far (primaryOf L i w / 4) → secondaryOf L i ≡ 0
+own-rest : (L i w : ℕ) → w < 4 → Far (primaryOf L i w / 4) → secondaryOf L i ≡ 0
 unfolding primaryOf codeOf secondaryOf pieceByte
 own-rest L i w h f = go (leb L 8) f
   where
@@ -94,7 +94,7 @@ byte-rest (b ∷ bs) q f = go (contains q b) f (byte-rest bs q)
   where
     go : (t : Bool) → Far (cond t (primaryOwn b q) (primaryByte bs q) / 4) → (Far (primaryByte bs q / 4) → secondaryByte bs q ≡ 0)
         → cond t (secondaryOwn b q) (secondaryByte bs q) ≡ 0
-    go true f ih = own-rest (len b) (q - b .base) (bit (isWritten b q)) (bit-lt (isWritten b q)) f
+    go true f ih = own-rest (len b) (q - b .base) (lowBits (b .literal) (isWritten b q)) (low-lt (b .literal) (isWritten b q)) f
     go false f ih = ih f
 
 stack-rest : (size : ℕ) (bs : List Block) (q : ℕ) → Far (at ((stackImage size bs) .0) q / 4) → at ((stackImage size bs) .1) q ≡ 0

@@ -13,7 +13,7 @@ use Rattle.heap_layout.specs.Image.{cellByte, covers, own, heapByte}
 use Rattle.heap_layout.specs.Reading.{heapReading}
 use Rattle.heap_layout.specs.Walk.{agree, matches, marksAt, heapWalk}
 use Rattle.heap_layout.specs.Ops.{placeLength, heapVacant, heapStamp, heapErase, heapMark, heapMarked}
-use Rattle.stack_layout.specs.Code.{shortCode, pieceOf, codeOf, pieceByte, primaryOf, secondaryOf, lengthFrom, shortLength, shortOffset}
+use Rattle.stack_layout.specs.Code.{shortCode, pieceOf, codeOf, pieceByte, lowBits, primaryOf, secondaryOf, lengthFrom, shortLength, shortOffset}
 use Rattle.stack_layout.specs.Image.{primaryOwn, secondaryOwn}
 use Rattle.stack_layout.specs.Reading.{fitted, badPiece, longReading, codeReading, stackReading}
 use Rattle.stack_layout.specs.Walk.{isClear, isByte, lengthAt, stackWalk}
@@ -24,13 +24,17 @@ use Rattle.demands.specs.ByteSamples.{numbers, disagreeing}
 use Rattle.demands.specs.DamageSamples.{readings, callsOnDamage, DamageSamplesHold}
 use Rattle.demands.specs.GivenShadows.{put, allGiven}
 use Rattle.demands.specs.Samples.{sameBytes, runHolds, allHold, table, edges, begunWritten, larger, SamplesHold}
+use Rattle.demands.specs.LiteralSamples.{literals, LiteralSamplesHold}
 
-computed : SamplesHold × DamageSamplesHold
-unfolding byteOf word bitOf withBit ofBits ones tab zeros over goodArea apart goodMap segments total layer markRange rangeMarked readAny climb cellByte covers own heapByte heapReading agree matches marksAt heapWalk placeLength heapVacant heapStamp heapErase heapMark heapMarked shortCode pieceOf codeOf pieceByte primaryOf secondaryOf lengthFrom shortLength shortOffset primaryOwn secondaryOwn fitted badPiece longReading codeReading stackReading isClear isByte lengthAt stackWalk stackVacant stackStamp stackErase stackMark stackMarked lengthsFit call sameBytes runHolds allHold table edges begunWritten larger put allGiven readings numbers callsOnDamage disagreeing
-computed = ((refl, refl, refl, refl), (refl, refl, refl, refl))
+computed : SamplesHold × DamageSamplesHold × LiteralSamplesHold
+unfolding byteOf word bitOf withBit ofBits ones tab zeros over goodArea apart goodMap segments total layer markRange rangeMarked readAny climb cellByte covers own heapByte heapReading agree matches marksAt heapWalk placeLength heapVacant heapStamp heapErase heapMark heapMarked shortCode pieceOf codeOf pieceByte lowBits primaryOf secondaryOf lengthFrom shortLength shortOffset primaryOwn secondaryOwn fitted badPiece longReading codeReading stackReading isClear isByte lengthAt stackWalk stackVacant stackStamp stackErase stackMark stackMarked lengthsFit call sameBytes runHolds allHold table edges begunWritten literals larger put allGiven readings numbers callsOnDamage disagreeing
+computed = ((refl, refl, refl, refl), (refl, refl, refl, refl), refl)
 
 pub samples-hold : SamplesHold
 samples-hold = computed .0
 
 pub damage-samples-hold : DamageSamplesHold
 damage-samples-hold = computed .1
+
+pub literal-samples-hold : LiteralSamplesHold
+literal-samples-hold = computed .2

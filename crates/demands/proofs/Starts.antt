@@ -1,6 +1,6 @@
 -- How the bytes of a block start, on any shadows: see `BytesStart` of specs/Alters.antt. Assumes nothing.
-use mathlib.Core.Path.{_≡_, sym, ap, _∙_}
-use mathlib.Core.Bool.{Bool, true, false, _&&_}
+use mathlib.Core.Path.{_≡_, refl, sym, ap, _∙_}
+use mathlib.Core.Bool.{true, false, _&&_}
 use mathlib.Core.List.{[], _∷_}
 use mathlib.Core.Option.{some}
 use Prim.Native.Nat.{ℕ, _+_, _*_, _-_, _/_, _%_, _≤_, _<_}
@@ -15,24 +15,26 @@ use Rattle.number.proofs.TestLaws.{Test, is-true, is-false, test, and-true, in-
 use Rattle.number.proofs.BitLaws.{bit-test, bitOf-lt}
 use Rattle.map.specs.declared.Map.{Map}
 use Rattle.map.proofs.MapLaws.{Good, good-true, within-true, true-within}
+use Rattle.plain.specs.declared.Beginning.{Beginning}
+use Rattle.plain.specs.declared.Beginning.the-variants.{Unwritten, Written, Literal}
 use Rattle.plain.specs.Areas.{segments, mapRules}
-use Rattle.plain.specs.Block.{Block, len, begun, contains}
+use Rattle.plain.specs.Block.{Block, len, startsWritten, startsLiteral, begun, contains, isWritten}
 use Rattle.plain.specs.Blocks.{find}
 use Rattle.plain.specs.Rules.{Placed}
-use Rattle.plain.specs.Call.{begin, record-block, number}
+use Rattle.plain.specs.Call.{begin}
+use Rattle.plain.specs.Reading.{says}
 use Rattle.plain.proofs.BlockLaws.{true-contains}
 use Rattle.plain.proofs.StampedLaws.{Stands}
 use Rattle.heap_layout.specs.Ops.{heapMarked}
 use Rattle.stack_layout.specs.Ops.{stackMarked}
 use Rattle.shadows.specs.Shadows.{Shadows, heap, primary, shadowOps, image}
-use Rattle.shadows.proofs.ShadowLaws.{map-sound, shadow-images}
 use Rattle.monitor_base.specs.Calls.{call}
 use Rattle.demands.specs.Addresses.{inHeap, inStack}
 use Rattle.demands.specs.Demand1.{numberOf}
-use Rattle.demands.specs.Alters.{inPlace, writtenAt, BytesStart}
-use Rattle.demands.proofs.Numbers.{number-first}
+use Rattle.demands.specs.Alters.{inPlace, writtenAt, literalAt, BytesStart}
 use Rattle.demands.proofs.Begun as begun
-use Rattle.demands.proofs.Demand2.{not-both-areas}
+use Rattle.demands.proofs.Demand2.{not-both-areas, image-listed}
+use Rattle.demands.proofs.Readings.{blocks-read}
 use Rattle.demands.proofs.Alters.{record-stamps}
 
 -- the written bit of an address, and the test of it that calls use
@@ -50,39 +52,42 @@ written-marked m s x = go (test (inHeap m x))
         rw (h, k, j) (sym (bit-test (bitOf (at (s .0) (p / 8 * 8 + 4)) (p % 8)) (bitOf-lt (at (s .0) (p / 8 * 8 + 4)) (p % 8))))
     go (is-false h) = rw h (sym (bit-test (at (s .1 .0) (x - m .«stack_start») % 2) (mod-lt (at (s .1 .0) (x - m .«stack_start»)) (lit< tt))))
 
-module _ (m : Map) (w : Bool) (b l : ℕ) (s : Shadows) (e : numberOf m (begin w b l) s ≡ 0) (x : ℕ) (from : b ≤ x) (to : x < b + l) where
-  e′ : number ((call m (record-block b l) s) .1) ≡ 0
-  e′ = number-first m (record-block b l) s ∙ sym (number-first m (begin w b l) s) ∙ e
-
-  A : begun.Accepted m b l s e′
-  A = begun.accepted m b l s e′
+module _ (m : Map) (w : Beginning) (b l : ℕ) (s : Shadows) (e : numberOf m (begin w b l) s ≡ 0) (x : ℕ) (from : b ≤ x) (to : x < b + l) where
+  A : begun.Accepted m w b l s e
+  A = begun.accepted m w b l s e
 
   abbrev B : Block
   B = begun w b l
 
   stands : Stands (mapRules m) B
-  stands = begun.stands m b l s e′ w
+  stands = begun.stands m w b l s e
 
   placed : Placed (mapRules m) 0 (B ∷ [])
-  placed = record { some = stands .some; fits = stands .fits; aligned = stands .aligned; room = omega arith; later = tt }
+  placed = record { some = stands .some; fits = stands .fits; aligned = stands .aligned; proper = stands .proper; room = omega arith; later = tt }
 
-  in-image : writtenAt m (image m (B ∷ [])) x ≡ bit w
+  -- the two bits of an address, as an image has them: what the block is read as there
+  in-image : (writtenAt m (image m (B ∷ [])) x ≡ bit (startsWritten w)) × (literalAt m (image m (B ∷ [])) x ≡ bit (startsLiteral w))
   unfolding find
   in-image =
-      let ln : len B ≡ l = length-replicate l w in
+      let ln : len B ≡ l = length-replicate l (startsWritten w) in
       let c : contains x B ≡ true = true-contains x B from (omega (arith, ln)) in
-      let i : mapRules m .inside x ≡ true = map-sound m (A .good) .in-inside b l x (A .fits) from to in
       let f : find (contains x) (B ∷ []) ≡ some B = rw c in
-      written-marked m (image m (B ∷ [])) x ∙ ap bit (shadow-images m (A .good) .image-marked (B ∷ []) placed x B i f ∙ getD-replicate l (x - b) w false (omega arith))
+      let k = blocks-read m (image m (B ∷ [])) x b (len B) (x - b) (bit (isWritten B x)) (startsLiteral w)
+      (image-listed m (A .good) (B ∷ []) placed x ∙ ap (says x) f) in
+      (sym (k .2) ∙ ap bit (getD-replicate l (x - b) (startsWritten w) false (omega arith)), sym (k .3))
 
-  same : writtenAt m ((call m (begin w b l) s) .0) x ≡ writtenAt m (image m (B ∷ [])) x
+  -- and they are those that the call leaves
+  same : (writtenAt m ((call m (begin w b l) s) .0) x ≡ writtenAt m (image m (B ∷ [])) x)
+      × (literalAt m ((call m (begin w b l) s) .0) x ≡ literalAt m (image m (B ∷ [])) x)
   unfolding segments
   same = go (test (inHeap m b))
     where
       g : Good m
       g = good-true m (A .good)
 
-      go : Test (inHeap m b) → writtenAt m ((call m (begin w b l) s) .0) x ≡ writtenAt m (image m (B ∷ [])) x
+      go : Test (inHeap m b)
+          → (writtenAt m ((call m (begin w b l) s) .0) x ≡ writtenAt m (image m (B ∷ [])) x)
+          × (literalAt m ((call m (begin w b l) s) .0) x ≡ literalAt m (image m (B ∷ [])) x)
       go (is-true h) =
           let f : (leb (m .«heap_start» + 8) b && leb (b + l) (m .«heap_start» + m .«heap_size») && true) ≡ true = rw h at (A .fits) in
           let u = and-true (leb (m .«heap_start» + 8) b && leb (b + l) (m .«heap_start» + m .«heap_size»)) true f in
@@ -95,7 +100,7 @@ module _ (m : Map) (w : Bool) (b l : ℕ) (s : Shadows) (e : numberOf m (begin w
           let pl : inPlace m b l (heap q) ≡ true =
           rw h (in-true (b - m .«heap_start» - 8) (b - m .«heap_start» - 8 + (8 + segments 8 l * 8)) q (omega (arith, g .heapStart8)) (omega (arith, g .heapStart8))) in
           let r = record-stamps m w b l s e (heap q) in
-          rw hx (ap (λ (y : ℕ). bitOf y ((x - m .«heap_start») % 8)) (r ∙ rw pl))
+          rw hx (ap (λ (y : ℕ). bitOf y ((x - m .«heap_start») % 8)) (r ∙ rw pl), refl)
       go (is-false h) =
           let f : (leb (b + l) (m .«stack_start» + m .«stack_size») && inStack m b) ≡ true = rw h at (A .fits) in
           let u = and-true (leb (b + l) (m .«stack_start» + m .«stack_size»)) (inStack m b) f in
@@ -106,11 +111,15 @@ module _ (m : Map) (w : Bool) (b l : ℕ) (s : Shadows) (e : numberOf m (begin w
           let q : ℕ = x - m .«stack_start» in
           let pl : inPlace m b l (primary q) ≡ true =
           rw h (in-true (b - m .«stack_start») (b - m .«stack_start» + l) q (omega arith) (omega arith)) in
-          let r = record-stamps m w b l s e (primary q) in
-          rw hx (ap (λ (y : ℕ). y % 2) (r ∙ rw pl))
+          let r : at ((call m (begin w b l) s) .0 .1 .0) q ≡ at ((image m (B ∷ [])) .1 .0) q = record-stamps m w b l s e (primary q) ∙ rw pl in
+          rw hx (ap (λ (y : ℕ). y % 2) r, ap (λ (y : ℕ). y / 2 % 2) r)
 
 pub bytes-start : BytesStart
-bytes-start m b l s x from to = (λ e. starts false e, λ e. starts true e)
+bytes-start m b l s x from to = (λ e. starts Unwritten e, λ e. starts Written e, λ e. starts Literal e)
   where
-    starts : (w : Bool) → numberOf m (begin w b l) s ≡ 0 → writtenAt m ((call m (begin w b l) s) .0) x ≡ bit w
-    starts w e = same m w b l s e x from to ∙ in-image m w b l s e x from to
+    starts : (w : Beginning) → numberOf m (begin w b l) s ≡ 0
+        → (writtenAt m ((call m (begin w b l) s) .0) x ≡ bit (startsWritten w)) × (literalAt m ((call m (begin w b l) s) .0) x ≡ bit (startsLiteral w))
+    starts w e =
+        let k = same m w b l s e x from to in
+        let i = in-image m w b l s e x from to in
+        (k .0 ∙ i .0, k .1 ∙ i .1)

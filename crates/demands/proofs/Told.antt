@@ -16,7 +16,7 @@ use Rattle.plain.specs.Rules.{Placed}
 use Rattle.plain.specs.Reading.{Reading, nothing, block, damaged, lookup}
 use Rattle.plain.specs.Ops.{rangeMarked}
 use Rattle.plain.specs.Call.{Call, clear, begin, free, written, ask, valid, initialised, next, audit, Answer, answer, yesNo, firstOf}
-use Rattle.plain.specs.ShadowCalls.{isDamaged, isFirst, inOne, sameBlock, stop, climb, nextAnswer, shadowAnswer}
+use Rattle.plain.specs.ShadowCalls.{isDamaged, isFirst, inOne, isLiteral, sameBlock, stop, climb, nextAnswer, shadowAnswer}
 use Rattle.shadows.specs.Shadows.{Shadows, lengthsFit, shadowOps, image}
 use Rattle.shadows.proofs.ShadowLaws.{map-sound}
 use Rattle.monitor_base.specs.Calls.{refusals, call}
@@ -24,24 +24,31 @@ use Rattle.demands.specs.Addresses.{inHeap, inStack, outside, endOfAreas
 use Rattle.demands.specs.Numbers.{damagedFirst}
 use Rattle.demands.specs.Alters.{writtenAt}
 use Rattle.demands.specs.Demand1.{numberOf}
-use Rattle.demands.specs.Demand2.{blockTold, totalsOf}
-use Rattle.demands.specs.Told.{validTold, eachOne, initialisedTold, endsHere, nextTold, totalsTold, AnswersRead, TotalsTold}
-use Rattle.demands.proofs.Numbers.{number-first, bit-words, reading-words, search-words}
+use Rattle.demands.specs.Demand2.{toldAt, totalsOf}
+use Rattle.demands.specs.Told.{readTold, validTold, eachOne, initialisedTold, endsHere, nextTold, totalsTold, AnswersRead, TotalsTold}
+use Rattle.demands.proofs.Numbers.{number-first, and-right, bit-words, reading-words, search-words}
 use Rattle.demands.proofs.Demand1.{accepted-exactly}
 use Rattle.demands.proofs.Demand2.{ask-reads, image-listed, image-told, audit-only}
 use Rattle.demands.proofs.Starts.{written-marked}
 use Rattle.demands.proofs.Totals.{live-told, written-told, count-told}
 
-valid-words : (n : ℕ) (r f : Reading) → yesNo (inOne n r && sameBlock r f) ≡ answer 0 (validTold n r f) 0 0 0
-valid-words n (block b l o w) (block b′ l′ o′ w′) = ap (λ (x : ℕ). answer 0 x 0 0 0) (bit-words (leb (o + n) l && (eqb b b′ && eqb l l′)))
-valid-words n (block b l o w) nothing = rw (and-false-r (leb (o + n) l) false refl)
-valid-words n (block b l o w) damaged = rw (and-false-r (leb (o + n) l) false refl)
+read-words : (n : ℕ) (r f : Reading) → yesNo (inOne n r && sameBlock r f && true) ≡ answer 0 (readTold n r f) 0 0 0
+read-words n (block b l o w t) (block b′ l′ o′ w′ t′) =
+    rw (and-right (leb (o + n) l && (eqb b b′ && eqb l l′))) (ap (λ (x : ℕ). answer 0 x 0 0 0) (bit-words (leb (o + n) l && (eqb b b′ && eqb l l′))))
+read-words n (block b l o w t) nothing = rw (and-false-r (leb (o + n) l) false refl)
+read-words n (block b l o w t) damaged = rw (and-false-r (leb (o + n) l) false refl)
+read-words n nothing f = refl
+read-words n damaged f = refl
+
+valid-words : (n : ℕ) (r f : Reading) → yesNo (inOne n r && sameBlock r f && not (isLiteral r)) ≡ answer 0 (validTold n r f) 0 0 0
 valid-words n nothing f = refl
+valid-words n (block b l o w true) f = rw (and-false-r (leb (o + n) l && sameBlock (block b l o w true) f) false refl)
+valid-words n (block b l o w false) f = read-words n (block b l o w false) f
 valid-words n damaged f = refl
 
 initialised-words : (n : ℕ) (r : Reading) (t : Bool) → yesNo (inOne n r && t) ≡ answer 0 (initialisedTold n r t) 0 0 0
 initialised-words n nothing t = refl
-initialised-words n (block b l o w) t = ap (λ (x : ℕ). answer 0 x 0 0 0) (bit-words (leb (o + n) l && t))
+initialised-words n (block b l o w k) t = ap (λ (x : ℕ). answer 0 x 0 0 0) (bit-words (leb (o + n) l && t))
 initialised-words n damaged t = refl
 
 each-words : (m : Map) (s : Shadows) (n a : ℕ) → rangeMarked (shadowOps m) s a n ≡ eachOne (writtenAt m s) a n
@@ -59,8 +66,8 @@ next-words rd (suc n) a e = go (rd a) e (next-words rd n (suc a))
         → (damagedFirst rd (suc a) n ≡ false → nextAnswer (climb rd (suc a) n) ≡ nextTold rd (suc a) n)
         → nextAnswer (stop r (climb rd (suc a) n)) ≡ endsHere r (nextTold rd (suc a) n)
     go nothing e ih = ih e
-    go (block b l zero w) e ih = refl
-    go (block b l (suc o) w) e ih = ih (rw (ne-eqb (suc o) 0 (omega arith)) at e)
+    go (block b l zero w t) e ih = refl
+    go (block b l (suc o) w t) e ih = ih (rw (ne-eqb (suc o) 0 (omega arith)) at e)
     go damaged e ih = absurd (true≢false e)
 
 -- what an accepted call answers, by its definition
@@ -95,7 +102,7 @@ audited : (m : Map) (s : Shadows) → numberOf m audit s ≡ 0 → (call m audit
 audited m s e = audit-by m (readingAt m) (image-listed m) s e
 
 pub totals-told : TotalsTold
-totals-told m s e = audit-by m (λ t a. blockTold ((call m (ask a) t) .1)) (image-told m) s e
+totals-told m s e = audit-by m (toldAt m) (image-told m) s e
 
 -- ---- every call
 
@@ -108,8 +115,10 @@ answers-read m (ask a) s e =
     let h = accepted-exactly m (ask a) s .1 e in
     let o : outside m a ≡ false = h .1 .1 .1 .0 in
     rw (ask-reads m s (not-false (goodMap m) (h .0)) (not-false (lengthsFit m s) (h .1 .0)) a, o)
-answers-read m (valid a n from) s e =
-    answered m (valid a n from) s e ∙ rw (reading-words m s a, reading-words m s from) (valid-words n (readingAt m s a) (readingAt m s from))
+answers-read m (valid true a n from) s e =
+    answered m (valid true a n from) s e ∙ rw (reading-words m s a, reading-words m s from) (valid-words n (readingAt m s a) (readingAt m s from))
+answers-read m (valid false a n from) s e =
+    answered m (valid false a n from) s e ∙ rw (reading-words m s a, reading-words m s from) (read-words n (readingAt m s a) (readingAt m s from))
 answers-read m (initialised a n) s e =
     answered m (initialised a n) s e
     ∙ rw (reading-words m s a, each-words m s n a) (initialised-words n (readingAt m s a) (eachOne (writtenAt m s) a n))

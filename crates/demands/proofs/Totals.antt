@@ -137,7 +137,7 @@ written-told R G bs P =
 module _ (p : ℕ → Bool) where
   -- a block's first byte, counted where p says so
   abbrev first : Block → ℕ → ℕ
-  first b a = cond (p a) (beginsHere (block (b .base) (len b) (a - b .base) (bit (isWritten b a)))) 0
+  first b a = cond (p a) (beginsHere (block (b .base) (len b) (a - b .base) (bit (isWritten b a)) (b .literal))) 0
 
   sum-first : (b : Block) → 1 ≤ len b → sumOver (first b) (b .base) (len b) ≡ bit (p (b .base))
   unfolding sumOver

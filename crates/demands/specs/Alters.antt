@@ -9,9 +9,10 @@ use lib.ListN.{length}
 use Rattle.number.specs.Bits.{bitOf}
 use Rattle.number.specs.Parts.{at, inPart}
 use Rattle.map.specs.declared.Map.{Map}
+use Rattle.plain.specs.declared.Beginning.{Beginning}
 use Rattle.plain.specs.Areas.{segments}
 use Rattle.plain.specs.Block.{begun}
-use Rattle.plain.specs.Call.{Call, begin, record-block, record-written, free, written}
+use Rattle.plain.specs.Call.{Call, begin, record-block, record-written, record-literal, free, written}
 use Rattle.plain.specs.ShadowCalls.{lengthOf}
 use Rattle.shadows.specs.Shadows.{Shadows, Place, heap, primary, secondary, byteAt, image}
 use Rattle.monitor_base.specs.Calls.{call}
@@ -42,8 +43,8 @@ ZeroExactly =
 -- "record (base, length)": the bytes of the place become those that the layout gives for the block as it begins, and no other byte is altered
 abbrev pub RecordStamps : Type 0
 RecordStamps =
-    (m : Map) (w : Bool) (b l : ℕ) (s : Shadows) → numberOf m (begin w b l) s ≡ 0 → (q : Place)
-    → byteAt ((call m (begin w b l) s) .0) q ≡ cond (inPlace m b l q) (byteAt (image m (begun w b l ∷ [])) q) (byteAt s q)
+    (m : Map) (h : Beginning) (b l : ℕ) (s : Shadows) → numberOf m (begin h b l) s ≡ 0 → (q : Place)
+    → byteAt ((call m (begin h b l) s) .0) q ≡ cond (inPlace m b l q) (byteAt (image m (begun h b l ∷ [])) q) (byteAt s q)
 
 -- "free (base): zeroes the shadow of the block and of its header", and alters no other byte
 abbrev pub FreeZeroes : Type 0
@@ -56,6 +57,10 @@ abbrev pub writtenAt : Map → Shadows → (address : ℕ) → ℕ
 writtenAt m s x =
     cond (inHeap m x) (bitOf (at (s .0) ((x - m .«heap_start») / 8 * 8 + 4)) ((x - m .«heap_start») % 8)) (at (s .1 .0) (x - m .«stack_start») % 2)
 
+-- bit 1 of an address: that of its primary byte in the stack; the heap has none, "heap blocks always may" be written
+abbrev pub literalAt : Map → Shadows → (address : ℕ) → ℕ
+literalAt m s x = cond (inHeap m x) 0 (at (s .1 .0) (x - m .«stack_start») / 2 % 2)
+
 -- "written (address, n): n bytes inside one block become written; only their written bits change": the n bits are 1, that of every other address
 -- of an area is as before, and so is whatever is no written bit
 abbrev pub WrittenMarks : Type 0
@@ -67,10 +72,14 @@ WrittenMarks =
     × ((q : ℕ) → at ((call m (written a n) s) .0 .1 .0) q / 2 ≡ at (s .1 .0) q / 2)
     × ((call m (written a n) s) .0 .1 .1 ≡ s .1 .1)
 
--- record: "All bytes start unwritten"; S-1: "a block whose bytes all count as written": where it is accepted, the written bit of each byte of the
--- block is 0 after the one, and 1 after the other
+-- record: "All bytes start unwritten"; S-1: "a block whose bytes all count as written"; S-5: "all written, bit 1 of each primary byte set": where
+-- it is accepted, the written bit and bit 1 of each byte of the block are 0 and 0 after the first, 1 and 0 after the second, 1 and 1 after the third
 abbrev pub BytesStart : Type 0
 BytesStart =
     (m : Map) (b l : ℕ) (s : Shadows) (x : ℕ) → b ≤ x → x < b + l
-    → (numberOf m (record-block b l) s ≡ 0 → writtenAt m ((call m (record-block b l) s) .0) x ≡ 0)
-    × (numberOf m (record-written b l) s ≡ 0 → writtenAt m ((call m (record-written b l) s) .0) x ≡ 1)
+    → (numberOf m (record-block b l) s ≡ 0
+    → (writtenAt m ((call m (record-block b l) s) .0) x ≡ 0) × (literalAt m ((call m (record-block b l) s) .0) x ≡ 0))
+    × (numberOf m (record-written b l) s ≡ 0
+    → (writtenAt m ((call m (record-written b l) s) .0) x ≡ 1) × (literalAt m ((call m (record-written b l) s) .0) x ≡ 0))
+    × (numberOf m (record-literal b l) s ≡ 0
+    → (writtenAt m ((call m (record-literal b l) s) .0) x ≡ 1) × (literalAt m ((call m (record-literal b l) s) .0) x ≡ 1))

@@ -2,7 +2,7 @@
 -- map: heap 4096 to 4159, stack 8192 to 8223. `DamageSamplesHold` says that they hold. Assumes nothing.
 use mathlib.Core.List.{List, [], _∷_}
 use Prim.Native.Nat.{ℕ}
-use Rattle.plain.specs.Call.{Call, ask, valid, initialised, Answer, answer, refusal}
+use Rattle.plain.specs.Call.{Call, written, ask, valid-write, valid-read, initialised, audit, Answer, answer, refusal}
 use Rattle.demands.specs.GivenShadows.{Given}
 
 -- ---- numbers of four bytes, and whole-number sums
@@ -67,14 +67,34 @@ disagreeing =
     -- "Two readings give the same block when base and length are equal": 8 is the first byte of 2, 20 the second of 3, both from 8192 on
     two 8 20 (ask 8192) (answer 0 8192 2 0 0)
     ∷ two 8 20 (ask 8193) (answer 0 8192 3 1 0)
-    ∷ two 8 20 (valid 8192 1 8193) (answer 0 0 0 0 0)
-    ∷ two 8 20 (valid 8193 1 8192) (answer 0 0 0 0 0)
-    ∷ two 8 12 (valid 8192 1 8193) (answer 0 1 0 0 0)
-    ∷ pieces 20 (valid 8192 1 8200) (answer 0 0 0 0 0)
-    ∷ pieces 20 (valid 8200 1 8192) (answer 0 0 0 0 0)
-    ∷ pieces 16 (valid 8192 1 8200) (answer 0 1 0 0 0)
+    ∷ two 8 20 (valid-write 8192 1 8193) (answer 0 0 0 0 0)
+    ∷ two 8 20 (valid-write 8193 1 8192) (answer 0 0 0 0 0)
+    ∷ two 8 12 (valid-write 8192 1 8193) (answer 0 1 0 0 0)
+    ∷ pieces 20 (valid-write 8192 1 8200) (answer 0 0 0 0 0)
+    ∷ pieces 20 (valid-write 8200 1 8192) (answer 0 0 0 0 0)
+    ∷ pieces 16 (valid-write 8192 1 8200) (answer 0 1 0 0 0)
     -- equal lengths from two bases
-    ∷ two 4 4 (valid 8192 1 8193) (answer 0 0 0 0 0)
+    ∷ two 4 4 (valid-write 8192 1 8193) (answer 0 0 0 0 0)
+    -- the mark is not compared: 8 and 12 are the bytes of a block of 2, 11 and 15 those of a literal; each reading goes by its own byte
+    ∷ two 8 15 (valid-write 8192 1 8193) (answer 0 1 0 0 0)
+    ∷ two 8 15 (valid-write 8193 1 8192) (answer 0 0 0 0 0)
+    ∷ two 8 15 (valid-read 8193 1 8192) (answer 0 1 0 0 0)
+    ∷ two 8 15 (written 8192 2) (answer 0 0 0 0 0)
+    ∷ two 8 15 (written 8193 1) (refusal 13)
+    ∷ two 11 12 (valid-read 8192 1 8193) (answer 0 1 0 0 0)
+    ∷ two 11 12 (valid-write 8192 1 8193) (answer 0 0 0 0 0)
+    ∷ two 11 12 (written 8192 2) (refusal 13)
+    ∷ two 11 12 (written 8192 3) (refusal 7)
+    -- audit wants it equal over a block, and each byte written where it is set
+    ∷ two 6 0 audit (refusal 8)
+    ∷ two 7 0 audit (answer 0 0 1 1 1)
+    ∷ two 11 15 audit (answer 0 0 1 2 2)
+    ∷ two 10 14 audit (refusal 8)
+    ∷ two 11 14 audit (refusal 8)
+    ∷ two 10 15 audit (refusal 8)
+    ∷ two 11 13 audit (refusal 8)
+    ∷ two 9 15 audit (refusal 8)
+    ∷ two 9 13 audit (answer 0 0 1 2 2)
     -- initialised, in the stack: a later byte counts by its written bit alone, also where it would be damaged
     ∷ two 9 13 (initialised 8192 2) (answer 0 1 0 0 0)
     ∷ two 9 12 (initialised 8192 2) (answer 0 0 0 0 0)

@@ -5,7 +5,7 @@ use mathlib.Core.Path.{_≡_}
 use mathlib.Core.Bool.{true}
 use mathlib.Core.List.{List, [], _∷_}
 use Prim.Native.Nat.{ℕ, _+_, _*_, _-_}
-use Rattle.plain.specs.Call.{Call, record-block, free, written, ask, valid, initialised, next, audit, Answer, answer, refusal, done}
+use Rattle.plain.specs.Call.{Call, record-block, record-literal, free, written, ask, valid-write, valid-read, initialised, next, audit, Answer, answer, refusal, done}
 use Rattle.demands.specs.GivenShadows.{Given, allGiven}
 use Rattle.demands.specs.ByteSamples.{numbers, disagreeing}
 
@@ -82,17 +82,22 @@ readings =
     ∷ header 8 16 9 (refusal 8)
     -- "If offset ≥ L, no block"
     ∷ record { heap = (4, 9 ∷ []) ∷ (16, 9 ∷ []) ∷ []; primary = []; secondary = []; asks = ask 4113; gets = refusal 7 }
-    -- stack: "bit 1 is set", with and without the written bit, for short codes, code 0 and long codes
+    -- stack: a set bit 1 is "damage only with code 0", with and without the written bit; ask does not tell it
     ∷ byte 4 0 (answer 0 8192 1 0 0)
     ∷ byte 5 0 (answer 0 8192 1 0 1)
-    ∷ byte 6 0 (refusal 8)
-    ∷ byte 7 0 (refusal 8)
+    ∷ byte 6 0 (answer 0 8192 1 0 0)
+    ∷ byte 7 0 (answer 0 8192 1 0 1)
     ∷ byte 2 0 (refusal 8)
     ∷ byte 3 0 (refusal 8)
     ∷ onNine 192 0 (answer 0 8192 9 0 0)
     ∷ onNine 193 0 (answer 0 8192 9 0 1)
-    ∷ onNine 194 0 (refusal 8)
-    ∷ onNine 195 0 (refusal 8)
+    ∷ onNine 194 0 (answer 0 8192 9 0 0)
+    ∷ onNine 195 0 (answer 0 8192 9 0 1)
+    -- the codes that are damage are so with it too
+    ∷ onNine (4 * 37 + 2) 0 (refusal 8)
+    ∷ onNine (4 * 37 + 3) 0 (refusal 8)
+    ∷ onNine (4 * 47 + 3) 1 (refusal 8)
+    ∷ byte (4 * 63 + 3) 15 (refusal 8)
     -- "code 0 stands with a written bit"
     ∷ byte 0 0 (refusal 7)
     ∷ byte 1 0 (refusal 8)
@@ -169,14 +174,18 @@ callsOnDamage =
     -- for written and initialised, the first byte's reading
     ∷ broken (written 4112 1) (refusal 8)
     ∷ broken (written 4108 8) done
+    ∷ broken (written 8192 1) (refusal 8)
     ∷ broken (initialised 4112 1) (refusal 8)
     ∷ broken (initialised 4104 16) (answer 0 1 0 0 0)
     ∷ broken (initialised 4104 17) (answer 0 0 0 0 0)
     -- for valid, either reading
-    ∷ broken (valid 4112 1 4104) (refusal 8)
-    ∷ broken (valid 4104 1 4112) (refusal 8)
-    ∷ broken (valid 0 1 8192) (refusal 8)
-    ∷ broken (valid 4104 20 4111) (answer 0 1 0 0 0)
+    ∷ broken (valid-write 4112 1 4104) (refusal 8)
+    ∷ broken (valid-write 4104 1 4112) (refusal 8)
+    ∷ broken (valid-write 0 1 8192) (refusal 8)
+    ∷ broken (valid-write 4104 20 4111) (answer 0 1 0 0 0)
+    ∷ broken (valid-read 4112 1 4104) (refusal 8)
+    ∷ broken (valid-read 4104 1 4112) (refusal 8)
+    ∷ broken (valid-read 4104 20 4111) (answer 0 1 0 0 0)
     -- for next, one met before an answer
     ∷ broken (next 4104) (answer 0 4104 20 0 0)
     ∷ broken (next 4105) (refusal 8)
@@ -188,9 +197,13 @@ callsOnDamage =
     ∷ broken (record-block 4120 1) (refusal 6)
     ∷ broken (record-block 8192 1) (refusal 6)
     ∷ broken (record-block 8193 1) done
+    ∷ broken (record-literal 4120 1) (refusal 4)
+    ∷ broken (record-literal 8192 1) (refusal 6)
+    ∷ broken (record-literal 8193 1) done
     -- 3 comes before 8; 4 never meets it, since an address outside both areas is in no block
     ∷ broken (written 4112 0) (refusal 3)
-    ∷ broken (valid 4112 0 4112) (refusal 3)
+    ∷ broken (valid-write 4112 0 4112) (refusal 3)
+    ∷ broken (valid-read 4112 0 4112) (refusal 3)
     ∷ broken (initialised 8192 0) (refusal 3)
     ∷ []
 

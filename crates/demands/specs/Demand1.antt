@@ -27,14 +27,14 @@ NoneHolds rs = Each (λ (r : Refusal). r .1 ≡ false) rs
 abbrev pub RefusedAltersNothing : Type 0
 RefusedAltersNothing = (m : Map) (c : Call) (s : Shadows) → numberOf m c s ≢ 0 → call m c s ≡ (s, answer (numberOf m c s) 0 0 0 0)
 
--- ask, valid, initialised, next and audit alter no shadow byte, accepted or refused
+-- ask, valid, valid_read, initialised, next and audit alter no shadow byte, accepted or refused
 abbrev pub isQuestion : Call → Bool
 isQuestion clear = false
-isQuestion (begin w b l) = false
+isQuestion (begin h b l) = false
 isQuestion (free x) = false
 isQuestion (written a n) = false
 isQuestion (ask a) = true
-isQuestion (valid a n from) = true
+isQuestion (valid w a n from) = true
 isQuestion (initialised a n) = true
 isQuestion (next a) = true
 isQuestion audit = true

@@ -4,7 +4,7 @@
 -- Assumes nothing.
 use mathlib.Core.Path.{_≡_}
 use mathlib.Core.Logic.{_≢_, _⊎_}
-use mathlib.Core.Bool.{true, cond}
+use mathlib.Core.Bool.{true, false, cond}
 use mathlib.Core.List.{List}
 use Prim.Native.Nat.{ℕ, zero, suc, _+_, _*_, _/_, _≤_, _<_}
 use lib.ListN.{length}
@@ -18,7 +18,7 @@ use Rattle.plain.specs.Rules.{Placed}
 use Rattle.plain.specs.Areas.{mapRules}
 use Rattle.plain.specs.Reading.{Reading, nothing, block, damaged}
 use Rattle.plain.specs.ReadBack.{collect}
-use Rattle.plain.specs.Call.{ask, audit, Answer, answer, number}
+use Rattle.plain.specs.Call.{ask, valid-write, audit, Answer, answer, number}
 use Rattle.shadows.specs.Shadows.{Shadows, lengthsFit, image, byteAt, looks}
 use Rattle.monitor_base.specs.Calls.{call}
 use Rattle.demands.specs.Addresses.{inHeap, inStack, outside, endOfAreas, readingAt}
@@ -28,7 +28,7 @@ use Rattle.demands.specs.Addresses.{inHeap, inStack, outside, endOfAreas
 -- what ask answers of a reading: 7 "no block there", 8 "a reading is damaged", else "base, length, offset, written as 1 or 0"
 abbrev pub asked : Reading → Answer
 asked nothing = answer 7 0 0 0 0
-asked (block b l o w) = answer 0 b l o w
+asked (block b l o w t) = answer 0 b l o w
 asked damaged = answer 8 0 0 0 0
 
 -- readings follow the encodings, for all bytes: under a good map and right lengths ask answers, at every address, 4 outside both areas, and
@@ -66,7 +66,7 @@ RestZero =
     × ((q : ℕ) → (at ((image m bs) .1 .0) q / 4 ≤ 36) ⊎ (48 + 8 ≤ at ((image m bs) .1 .0) q / 4) → at ((image m bs) .1 .1) q ≡ 0)
 
 -- a list has one image, since `image` is a function; and an image has one list: two placed lists (placeable blocks in address order) with
--- the same image are the same list
+-- the same image are the same list, written bytes and literals included
 abbrev pub OneImage : Type 0
 OneImage =
     (m : Map) → goodMap m ≡ true → (bs cs : List Block) → Placed (mapRules m) 0 bs → Placed (mapRules m) 0 cs → image m bs ≡ image m cs → bs ≡ cs
@@ -98,15 +98,20 @@ AuditRefuses =
 
 -- ---- the list read back
 
--- what an answer of ask tells of its address: a block, where it is accepted
-abbrev pub blockTold : Answer → Reading
-blockTold (answer zero b l o w) = block b l o w
-blockTold (answer (suc k) b l o w) = nothing
+-- what the answers of ask, and of valid for one byte, tell of an address: a block, where ask is accepted; a literal, where valid then says 0
+abbrev pub blockTold : (asked valid : Answer) → Reading
+blockTold (answer zero b l o w) (answer zero zero x y z) = block b l o w true
+blockTold (answer zero b l o w) (answer zero (suc v) x y z) = block b l o w false
+blockTold (answer zero b l o w) (answer (suc k) v x y z) = damaged
+blockTold (answer (suc k) b l o w) r = nothing
 
--- the list that ask tells, called for every address below the end of the areas: an answer with offset 0 tells base and length of a block, and
--- the answers for its bytes tell which of them are written
+abbrev pub toldAt : Map → Shadows → ℕ → Reading
+toldAt m s a = blockTold ((call m (ask a) s) .1) ((call m (valid-write a 1 a) s) .1)
+
+-- the list that these two calls tell, made for every address below the end of the areas: an answer with offset 0 tells base and length of a
+-- block, and whether it is a literal, and the answers for its bytes tell which of them are written
 abbrev pub listTold : Map → Shadows → List Block
-listTold m s = collect (λ a. blockTold ((call m (ask a) s) .1)) 0 (endOfAreas m)
+listTold m s = collect (toldAt m s) 0 (endOfAreas m)
 
 -- the list read back is the list the image was made of
 abbrev pub ReadBack : Type 0

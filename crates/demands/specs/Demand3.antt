@@ -3,9 +3,9 @@
 -- `monitor`, and `step` for any call, gives the answer and leaves the shadows that `call` says, so that a run of the code is `shadowRun`.
 -- Assumes nothing.
 use mathlib.Core.Path.{_≡_}
+use mathlib.Core.Logic.{_≢_}
 use mathlib.Core.Bool.{true}
 use mathlib.Core.List.{List, [], _∷_}
-use Prim.Native.Nat.{_<_}
 use Rattle.number.specs.Parts.{Each}
 use Rattle.map.specs.declared.Map.{Map}
 use Rattle.map.specs.Map.{goodMap}
@@ -42,7 +42,7 @@ WholeRun = (m : Map) → goodMap m ≡ true → (cs : List Call) → shadowRun m
 -- "8 never does" arise: no answer has number 8
 abbrev pub NoDamage : Type 0
 NoDamage =
-    (m : Map) → goodMap m ≡ true → (cs : List Call) → Each (λ (r : Answer × Shadows). number (r .0) < 8) (shadowRun m (zeroShadows m) cs)
+    (m : Map) → goodMap m ≡ true → (cs : List Call) → Each (λ (r : Answer × Shadows). number (r .0) ≢ 8) (shadowRun m (zeroShadows m) cs)
 
 -- "clear: all shadows zero", whatever they held: shadows of the right lengths become cleared ones, so that a run that begins with clear is the
 -- plain list's too, from any bytes

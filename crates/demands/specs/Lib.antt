@@ -10,6 +10,8 @@ pub mod GivenShadows
 pub mod Good
 pub mod MapSamples
 pub mod Null
+pub mod Literals
+pub mod LiteralSamples
 pub mod Numbers
 pub mod Samples
 pub mod Told

@@ -8,21 +8,22 @@ use lib.Dec.{leb, eqb}
 use Rattle.number.specs.Parts.{at, zeros}
 use Rattle.map.specs.declared.Map.{Map}
 use Rattle.map.specs.Map.{goodMap}
+use Rattle.plain.specs.declared.Beginning.the-variants.{Unwritten, Written, Literal}
 use Rattle.plain.specs.Areas.{segments}
 use Rattle.plain.specs.Reading.{Reading}
 use Rattle.plain.specs.Call.{Call, clear, begin, free, written, ask, valid, initialised, next, audit, Refusal}
-use Rattle.plain.specs.ShadowCalls.{isDamaged, isBlock, isFirst, inOne, isNone}
+use Rattle.plain.specs.ShadowCalls.{isDamaged, isBlock, isFirst, inOne, isLiteral, isNone}
 use Rattle.shadows.specs.Shadows.{Shadows, lengthsFit, shadowOps}
 use Rattle.demands.specs.Addresses.{inHeap, outside, endOfAreas, readingAt}
 
 -- 3, "length or n is 0": record, written, valid, initialised
 abbrev pub isEmpty : Call → Bool
 isEmpty clear = false
-isEmpty (begin w b l) = eqb l 0
+isEmpty (begin h b l) = eqb l 0
 isEmpty (free x) = false
 isEmpty (written a n) = eqb n 0
 isEmpty (ask a) = false
-isEmpty (valid a n from) = eqb n 0
+isEmpty (valid w a n from) = eqb n 0
 isEmpty (initialised a n) = eqb n 0
 isEmpty (next a) = false
 isEmpty audit = false
@@ -34,15 +35,17 @@ fitsArea m b l =
     (leb (b + l) (m .«stack_start» + m .«stack_size»))
 
 -- 4, "address in neither area; for record also when the block, or a heap block's header, does not fit the area of its base": record, free,
--- written, ask. S-2: not free of address 0
+-- written, ask. S-2: not free of address 0. S-5: kind 14 "with 4 outside the stack area"
 abbrev pub isMisplaced : Map → Call → Bool
 isMisplaced m clear = false
-isMisplaced m (begin w b l) = outside m b || not (fitsArea m b l)
+isMisplaced m (begin Unwritten b l) = outside m b || not (fitsArea m b l)
+isMisplaced m (begin Written b l) = outside m b || not (fitsArea m b l)
+isMisplaced m (begin Literal b l) = inHeap m b || outside m b || not (fitsArea m b l)
 isMisplaced m (free zero) = false
 isMisplaced m (free (suc x)) = outside m (suc x)
 isMisplaced m (written a n) = outside m a
 isMisplaced m (ask a) = outside m a
-isMisplaced m (valid a n from) = false
+isMisplaced m (valid w a n from) = false
 isMisplaced m (initialised a n) = false
 isMisplaced m (next a) = false
 isMisplaced m audit = false
@@ -50,11 +53,11 @@ isMisplaced m audit = false
 -- 5, "heap base is no multiple of 8": record
 abbrev pub isUnaligned : Map → Call → Bool
 isUnaligned m clear = false
-isUnaligned m (begin w b l) = inHeap m b && not (eqb (b % 8) 0)
+isUnaligned m (begin h b l) = inHeap m b && not (eqb (b % 8) 0)
 isUnaligned m (free x) = false
 isUnaligned m (written a n) = false
 isUnaligned m (ask a) = false
-isUnaligned m (valid a n from) = false
+isUnaligned m (valid w a n from) = false
 isUnaligned m (initialised a n) = false
 isUnaligned m (next a) = false
 isUnaligned m audit = false
@@ -68,11 +71,11 @@ placeZero m s b l =
 -- 6, "some shadow byte of the place is not zero": record
 abbrev pub isTaken : Map → Call → Shadows → Bool
 isTaken m clear s = false
-isTaken m (begin w b l) s = not (placeZero m s b l)
+isTaken m (begin h b l) s = not (placeZero m s b l)
 isTaken m (free x) s = false
 isTaken m (written a n) s = false
 isTaken m (ask a) s = false
-isTaken m (valid a n from) s = false
+isTaken m (valid w a n from) s = false
 isTaken m (initialised a n) s = false
 isTaken m (next a) s = false
 isTaken m audit s = false
@@ -92,12 +95,12 @@ noneBegins rd a (suc n) = not (isFirst (rd a)) && noneBegins rd (suc a) n
 -- and `AuditRefuses`
 abbrev pub damageMet : Map → Call → Shadows → Bool
 damageMet m clear s = false
-damageMet m (begin w b l) s = false
+damageMet m (begin h b l) s = false
 damageMet m (free zero) s = false
 damageMet m (free (suc x)) s = isDamaged (readingAt m s (suc x))
 damageMet m (written a n) s = isDamaged (readingAt m s a)
 damageMet m (ask a) s = isDamaged (readingAt m s a)
-damageMet m (valid a n from) s = isDamaged (readingAt m s a) || isDamaged (readingAt m s from)
+damageMet m (valid w a n from) s = isDamaged (readingAt m s a) || isDamaged (readingAt m s from)
 damageMet m (initialised a n) s = isDamaged (readingAt m s a)
 damageMet m (next a) s = damagedFirst (readingAt m s) a (endOfAreas m - a)
 damageMet m audit s = isNone (shadowOps m .audit s)
@@ -106,18 +109,30 @@ damageMet m audit s = isNone (shadowOps m .audit s)
 -- ask, next. S-2: not free of address 0
 abbrev pub blockMissed : Map → Call → Shadows → Bool
 blockMissed m clear s = false
-blockMissed m (begin w b l) s = false
+blockMissed m (begin h b l) s = false
 blockMissed m (free zero) s = false
 blockMissed m (free (suc x)) s = not (isFirst (readingAt m s (suc x)))
 blockMissed m (written a n) s = not (inOne n (readingAt m s a))
 blockMissed m (ask a) s = not (isBlock (readingAt m s a))
-blockMissed m (valid a n from) s = false
+blockMissed m (valid w a n from) s = false
 blockMissed m (initialised a n) s = false
 blockMissed m (next a) s = noneBegins (readingAt m s) a (endOfAreas m - a)
 blockMissed m audit s = false
+
+-- 13, S-5: "written into a literal": written
+abbrev pub intoLiteral : Map → Call → Shadows → Bool
+intoLiteral m clear s = false
+intoLiteral m (begin h b l) s = false
+intoLiteral m (free x) s = false
+intoLiteral m (written a n) s = isLiteral (readingAt m s a)
+intoLiteral m (ask a) s = false
+intoLiteral m (valid w a n from) s = false
+intoLiteral m (initialised a n) s = false
+intoLiteral m (next a) s = false
+intoLiteral m audit s = false
 
 -- the rows of the table, by their numbers; 7 "never where 8 holds"
 abbrev pub rows : Map → Call → Shadows → List Refusal
 rows m c s =
     (1, not (goodMap m)) ∷ (2, not (lengthsFit m s)) ∷ (3, isEmpty c) ∷ (4, isMisplaced m c) ∷ (5, isUnaligned m c) ∷ (6, isTaken m c s)
-    ∷ (7, blockMissed m c s && not (damageMet m c s)) ∷ (8, damageMet m c s) ∷ []
+    ∷ (7, blockMissed m c s && not (damageMet m c s)) ∷ (8, damageMet m c s) ∷ (13, intoLiteral m c s) ∷ []

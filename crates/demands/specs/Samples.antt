@@ -7,7 +7,7 @@ use Prim.Native.Nat.{ℕ, suc, _*_}
 use lib.Dec.{eqb}
 use Rattle.number.specs.Parts.{at}
 use Rattle.map.specs.declared.Map.{Map}
-use Rattle.plain.specs.Call.{Call, clear, record-block, record-written, free, written, ask, valid, initialised, next, audit, Answer, answer, refusal, done}
+use Rattle.plain.specs.Call.{Call, clear, record-block, record-written, free, written, ask, valid-write, initialised, next, audit, Answer, answer, refusal, done}
 use Rattle.shadows.specs.Shadows.{Shadows, zeroShadows}
 use Rattle.monitor_base.specs.Calls.{call}
 
@@ -53,7 +53,7 @@ allHold m (x ∷ xs) = sampleHolds m x && allHold m xs
 -- ---- the table
 
 -- one call, of which the answer is looked at
-abbrev one : Call → Answer → Sample
+abbrev pub one : Call → Answer → Sample
 one c r = record { calls = c ∷ []; answers = r ∷ []; heap = (0, []); primary = (0, []); secondary = (0, []) }
 
 -- one recording that is accepted, and the primary byte at a position after it
@@ -64,7 +64,7 @@ coded b l q x = record { calls = record-block b l ∷ []; answers = done ∷ [];
 abbrev stored : (base length : ℕ) → List ℕ → Sample
 stored b l h = record { calls = record-block b l ∷ []; answers = done ∷ []; heap = (0, h); primary = (0, []); secondary = (0, []) }
 
-abbrev zeros8 : List ℕ
+abbrev pub zeros8 : List ℕ
 zeros8 = 0 ∷ 0 ∷ 0 ∷ 0 ∷ 0 ∷ 0 ∷ 0 ∷ 0 ∷ []
 
 unfoldable pub table : List Sample
@@ -108,7 +108,7 @@ table =
     ∷ record {
       calls =
           clear ∷ record-block 4104 20 ∷ written 4108 6 ∷ ask 4113 ∷ ask 4124 ∷ record-block 4128 4 ∷ record-block 4136 4 ∷ record-block 8195 11 ∷ ask 8205
-          ∷ valid 8200 7 8195 ∷ valid 8200 6 8195 ∷ next 4105 ∷ audit ∷ free 4105 ∷ free 4104 ∷ [];
+          ∷ valid-write 8200 7 8195 ∷ valid-write 8200 6 8195 ∷ next 4105 ∷ audit ∷ free 4105 ∷ free 4104 ∷ [];
       answers =
           done ∷ done ∷ done ∷ answer 0 4104 20 9 1 ∷ refusal 7 ∷ refusal 6 ∷ done ∷ done ∷ answer 0 8195 11 10 0 ∷ answer 0 0 0 0 0 ∷ answer 0 1 0 0 0
           ∷ answer 0 4136 4 0 0 ∷ answer 0 2 1 35 6 ∷ refusal 7 ∷ done ∷ [];
@@ -127,7 +127,7 @@ edges =
     -- a length of 0 is 3, inside and outside the areas
     one (record-block 0 0) (refusal 3)
     ∷ one (written 0 0) (refusal 3)
-    ∷ one (valid 0 0 0) (refusal 3)
+    ∷ one (valid-write 0 0 0) (refusal 3)
     ∷ one (initialised 0 0) (refusal 3)
     -- a block that passes the end, by whole numbers
     ∷ one (record-block 0 1) (refusal 4)
@@ -164,7 +164,7 @@ edges =
     -- outside both areas: 4 for written and ask, no block for valid and initialised
     ∷ one (written 4160 1) (refusal 4)
     ∷ one (ask 8224) (refusal 4)
-    ∷ one (valid 0 1 0) (answer 0 0 0 0 0)
+    ∷ one (valid-write 0 1 0) (answer 0 0 0 0 0)
     ∷ one (initialised 4294967295 4294967295) (answer 0 0 0 0 0)
     -- inside an area, nothing recorded
     ∷ one (free 4104) (refusal 7)
@@ -249,7 +249,7 @@ larger =
     ∷ longStack 288 ((44 ∷ 1 ∷ 0 ∷ 0 ∷ 32 ∷ 1 ∷ 0 ∷ 0 ∷ []) ++ zeros8)
     -- both read again, to their last bytes and past them
     ∷ record {
-      calls = record-block 4104 300 ∷ written 4360 9 ∷ ask 4360 ∷ ask 4403 ∷ ask 4404 ∷ valid 4359 45 4104 ∷ valid 4359 46 4104 ∷ next 4096 ∷ free 4104 ∷ [];
+      calls = record-block 4104 300 ∷ written 4360 9 ∷ ask 4360 ∷ ask 4403 ∷ ask 4404 ∷ valid-write 4359 45 4104 ∷ valid-write 4359 46 4104 ∷ next 4096 ∷ free 4104 ∷ [];
       answers =
           done ∷ done ∷ answer 0 4104 300 256 1 ∷ answer 0 4104 300 299 0 ∷ refusal 7 ∷ answer 0 1 0 0 0 ∷ answer 0 0 0 0 0 ∷ answer 0 4104 300 0 0 ∷ done
           ∷ [];
@@ -258,7 +258,7 @@ larger =
       secondary = (0, []);
     }
     ∷ record {
-      calls = record-block 8192 300 ∷ ask 8448 ∷ ask 8491 ∷ ask 8492 ∷ valid 8447 45 8192 ∷ valid 8447 46 8192 ∷ next 8190 ∷ [];
+      calls = record-block 8192 300 ∷ ask 8448 ∷ ask 8491 ∷ ask 8492 ∷ valid-write 8447 45 8192 ∷ valid-write 8447 46 8192 ∷ next 8190 ∷ [];
       answers =
           done ∷ answer 0 8192 300 256 0 ∷ answer 0 8192 300 299 0 ∷ refusal 7 ∷ answer 0 1 0 0 0 ∷ answer 0 0 0 0 0 ∷ answer 0 8192 300 0 0 ∷ [];
       heap = (0, []);

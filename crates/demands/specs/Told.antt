@@ -6,22 +6,30 @@ use mathlib.Core.Bool.{Bool, true, false, cond, _&&_}
 use Prim.Native.Nat.{ℕ, zero, suc, _+_, _-_, _≤_, _<_}
 use lib.Dec.{leb, eqb}
 use Rattle.map.specs.declared.Map.{Map}
+use Rattle.number.specs.Bits.{bit}
 use Rattle.plain.specs.Reading.{Reading, nothing, block, damaged}
 use Rattle.plain.specs.Call.{Call, clear, begin, free, written, ask, valid, initialised, next, audit, Answer, answer}
 use Rattle.shadows.specs.Shadows.{Shadows}
 use Rattle.monitor_base.specs.Calls.{call}
 use Rattle.demands.specs.Addresses.{inHeap, inStack, endOfAreas, readingAt}
-use Rattle.demands.specs.Alters.{writtenAt}
+use Rattle.demands.specs.Alters.{writtenAt, literalAt}
 use Rattle.demands.specs.Demand1.{numberOf}
-use Rattle.demands.specs.Demand2.{asked, blockTold}
+use Rattle.demands.specs.Demand2.{asked, toldAt}
 
 -- "1 exactly if from and all n bytes lie in the same block, else 0". "n bytes lie in one block when the reading of the first gives a block with
--- offset + n ≤ L. Two readings give the same block when base and length are equal"
+-- offset + n ≤ L. Two readings give the same block when base and length are equal". S-5: kind 15 "answers what valid did"
+abbrev pub readTold : (n : ℕ) → (first from : Reading) → ℕ
+readTold n (block b l o w t) (block b′ l′ o′ w′ t′) = cond (leb (o + n) l && (eqb b b′ && eqb l l′)) 1 0
+readTold n (block b l o w t) nothing = 0
+readTold n (block b l o w t) damaged = 0
+readTold n nothing from = 0
+readTold n damaged from = 0
+
+-- S-5: "Valid answers 0 where the address's reading is of a literal"
 abbrev pub validTold : (n : ℕ) → (first from : Reading) → ℕ
-validTold n (block b l o w) (block b′ l′ o′ w′) = cond (leb (o + n) l && (eqb b b′ && eqb l l′)) 1 0
-validTold n (block b l o w) nothing = 0
-validTold n (block b l o w) damaged = 0
 validTold n nothing from = 0
+validTold n (block b l o w true) from = 0
+validTold n (block b l o w false) from = readTold n (block b l o w false) from
 validTold n damaged from = 0
 
 -- "the written bit of each is set": it is 1 at each of the n addresses from a on
@@ -32,14 +40,14 @@ eachOne f a (suc n) = eqb (f a) 1 && eachOne f (suc a) n
 -- "1 exactly if the n bytes lie in one block and the written bit of each is set, else 0"
 abbrev pub initialisedTold : (n : ℕ) → (first : Reading) → (each : Bool) → ℕ
 initialisedTold n nothing each = 0
-initialisedTold n (block b l o w) each = cond (leb (o + n) l && each) 1 0
+initialisedTold n (block b l o w t) each = cond (leb (o + n) l && each) 1 0
 initialisedTold n damaged each = 0
 
 -- "The search climbs address by address and ends at the first reading with offset 0": base and length of that, or else what is told above
 abbrev pub endsHere : Reading → (above : Answer) → Answer
 endsHere nothing above = above
-endsHere (block b l zero w) above = answer 0 b l 0 0
-endsHere (block b l (suc o) w) above = above
+endsHere (block b l zero w t) above = answer 0 b l 0 0
+endsHere (block b l (suc o) w t) above = above
 endsHere damaged above = above
 
 -- of the n addresses from a on. Where none has a reading with offset 0, next is refused
@@ -55,18 +63,18 @@ sumOver f a (suc n) = f a + sumOver f (suc a) n
 -- of a reading: 1 for a byte of a block; its written bit; 1 for a block's first byte
 abbrev pub liveHere : Reading → ℕ
 liveHere nothing = 0
-liveHere (block b l o w) = 1
+liveHere (block b l o w t) = 1
 liveHere damaged = 0
 
 abbrev pub writtenHere : Reading → ℕ
 writtenHere nothing = 0
-writtenHere (block b l o w) = w
+writtenHere (block b l o w t) = w
 writtenHere damaged = 0
 
 abbrev pub beginsHere : Reading → ℕ
 beginsHere nothing = 0
-beginsHere (block b l zero w) = 1
-beginsHere (block b l (suc o) w) = 0
+beginsHere (block b l zero w t) = 1
+beginsHere (block b l (suc o) w t) = 0
 beginsHere damaged = 0
 
 -- "heap blocks, stack blocks, live bytes, written bytes": of all addresses below the end of the areas, how many of the heap and how many of the
@@ -79,11 +87,12 @@ totalsTold m rd =
 -- the number 0 and the fields, "in the order above", "all other fields zero"
 abbrev pub told : Map → Call → Shadows → Answer
 told m clear s = answer 0 0 0 0 0
-told m (begin w b l) s = answer 0 0 0 0 0
+told m (begin h b l) s = answer 0 0 0 0 0
 told m (free x) s = answer 0 0 0 0 0
 told m (written a n) s = answer 0 0 0 0 0
 told m (ask a) s = asked (readingAt m s a)
-told m (valid a n from) s = answer 0 (validTold n (readingAt m s a) (readingAt m s from)) 0 0 0
+told m (valid true a n from) s = answer 0 (validTold n (readingAt m s a) (readingAt m s from)) 0 0 0
+told m (valid false a n from) s = answer 0 (readTold n (readingAt m s a) (readingAt m s from)) 0 0 0
 told m (initialised a n) s = answer 0 (initialisedTold n (readingAt m s a) (eachOne (writtenAt m s) a n)) 0 0 0
 told m (next a) s = nextTold (readingAt m s) a (endOfAreas m - a)
 told m audit s = totalsTold m (readingAt m s)
@@ -93,16 +102,17 @@ abbrev pub AnswersRead : Type 0
 AnswersRead = (m : Map) (c : Call) (s : Shadows) → numberOf m c s ≡ 0 → (call m c s) .1 ≡ told m c s
 
 -- the same of audit, by what ask answers: where audit answers 0, its totals are those of the answers 0 of ask at all addresses below the end of the
--- areas (`blockTold`: base, length, offset and written of such an answer)
+-- areas (`toldAt`: base, length, offset and written of such an answer)
 abbrev pub TotalsTold : Type 0
 TotalsTold =
-    (m : Map) (s : Shadows) → numberOf m audit s ≡ 0 → (call m audit s) .1 ≡ totalsTold m (λ a. blockTold ((call m (ask a) s) .1))
+    (m : Map) (s : Shadows) → numberOf m audit s ≡ 0 → (call m audit s) .1 ≡ totalsTold m (toldAt m s)
 
 -- what every reading that gives a block keeps, on any shadows: "offset = a − base", "If offset ≥ L, no block"; the written bit is that of the
--- address; and the block fits its area, the heap's with its header
+-- address; the block is a literal if bit 1 of the address is set, "bit 1 of the primary byte read; heap blocks always may" be written; and the block
+-- fits its area, the heap's with its header
 abbrev pub BlocksRead : Type 0
 BlocksRead =
-    (m : Map) (s : Shadows) (a b l o w : ℕ) → readingAt m s a ≡ block b l o w
-    → (b + o ≡ a) × (o < l) × (w ≡ writtenAt m s a)
+    (m : Map) (s : Shadows) (a b l o w : ℕ) (t : Bool) → readingAt m s a ≡ block b l o w t
+    → (b + o ≡ a) × (o < l) × (w ≡ writtenAt m s a) × (bit t ≡ literalAt m s a)
     × (inHeap m a ≡ true → (m .«heap_start» + 8 ≤ b) × (b + l ≤ m .«heap_start» + m .«heap_size»))
     × (inHeap m a ≡ false → (m .«stack_start» ≤ b) × (b + l ≤ m .«stack_start» + m .«stack_size»))

@@ -56,5 +56,62 @@ originsText =
     ++ (49 ∷ 51 ∷ space ∷ 48 ∷ space ∷ 48 ∷ end ∷ []) ++ (53 ∷ space ∷ 48 ∷ space ∷ 51 ∷ 50 ∷ space ∷ 52 ∷ space ∷ 48 ∷ space ∷ 49 ∷ end ∷ [])
     ++ (57 ∷ end ∷ [])
 
+-- a literal of 4 bytes at 8192, which may be read and not written, and beside it a block that may be written: the same in both programs
+unfoldable pub literalFile : List ℕ
+literalFile =
+    entry 20 1 (4096 ∷ 64 ∷ 8192 ∷ 32 ∷ [])
+    ++ entry 12 14 (8192 ∷ 4 ∷ [])
+    ++ entry 16 6 (8192 ∷ 4 ∷ 8192 ∷ [])
+    ++ entry 16 15 (8192 ∷ 4 ∷ 8192 ∷ [])
+    ++ entry 16 6 (8192 ∷ 0 ∷ 8192 ∷ [])
+    ++ entry 12 2 (8196 ∷ 4 ∷ [])
+    ++ entry 16 15 (8196 ∷ 4 ∷ 8192 ∷ [])
+    ++ entry 16 15 (8196 ∷ 4 ∷ 8196 ∷ [])
+    ++ entry 16 6 (8196 ∷ 4 ∷ 8196 ∷ [])
+    ++ entry 12 4 (8192 ∷ 4 ∷ [])
+    ++ entry 12 4 (8192 ∷ 5 ∷ [])
+    ++ entry 12 4 (8195 ∷ 1 ∷ [])
+    ++ entry 12 4 (8192 ∷ 0 ∷ [])
+
+-- 1 0; 14 0; 6 0 0; 15 0 1; 6 3; 2 0; 15 0 0; 15 0 1; 6 0 1; 4 13; 4 7; 4 13; 4 3
+unfoldable pub literalText : List ℕ
+literalText =
+    (49 ∷ space ∷ 48 ∷ end ∷ [])
+    ++ (49 ∷ 52 ∷ space ∷ 48 ∷ end ∷ [])
+    ++ (54 ∷ space ∷ 48 ∷ space ∷ 48 ∷ end ∷ [])
+    ++ (49 ∷ 53 ∷ space ∷ 48 ∷ space ∷ 49 ∷ end ∷ [])
+    ++ (54 ∷ space ∷ 51 ∷ end ∷ [])
+    ++ (50 ∷ space ∷ 48 ∷ end ∷ [])
+    ++ (49 ∷ 53 ∷ space ∷ 48 ∷ space ∷ 48 ∷ end ∷ [])
+    ++ (49 ∷ 53 ∷ space ∷ 48 ∷ space ∷ 49 ∷ end ∷ [])
+    ++ (54 ∷ space ∷ 48 ∷ space ∷ 49 ∷ end ∷ [])
+    ++ (52 ∷ space ∷ 49 ∷ 51 ∷ end ∷ [])
+    ++ (52 ∷ space ∷ 55 ∷ end ∷ [])
+    ++ (52 ∷ space ∷ 49 ∷ 51 ∷ end ∷ [])
+    ++ (52 ∷ space ∷ 51 ∷ end ∷ [])
+
+-- a pointer kept in a literal
+unfoldable pub cellFile : List ℕ
+cellFile =
+    entry 20 1 (4096 ∷ 64 ∷ 8192 ∷ 32 ∷ [])
+    ++ entry 12 14 (8192 ∷ 4 ∷ [])
+    ++ entry 12 11 (8192 ∷ 8192 ∷ [])
+    ++ entry 12 13 (8192 ∷ 8195 ∷ [])
+    ++ entry 4 9 []
+
+-- 1 0; 14 0; 11 0; 13 0 1; 9 0 0 1 4 4
+unfoldable pub cellText : List ℕ
+cellText =
+    (49 ∷ space ∷ 48 ∷ end ∷ [])
+    ++ (49 ∷ 52 ∷ space ∷ 48 ∷ end ∷ [])
+    ++ (49 ∷ 49 ∷ space ∷ 48 ∷ end ∷ [])
+    ++ (49 ∷ 51 ∷ space ∷ 48 ∷ space ∷ 49 ∷ end ∷ [])
+    ++ (57 ∷ space ∷ 48 ∷ space ∷ 48 ∷ space ∷ 49 ∷ space ∷ 52 ∷ space ∷ 52 ∷ end ∷ [])
+
 abbrev pub FilesHold : Type 0
-FilesHold = (printedFile plainProgram plainFile ≡ plainText) × (printedFile originsProgram originsFile ≡ originsText)
+FilesHold =
+    (printedFile plainProgram plainFile ≡ plainText)
+    × (printedFile originsProgram originsFile ≡ originsText)
+    × (printedFile plainProgram literalFile ≡ literalText)
+    × (printedFile originsProgram literalFile ≡ literalText)
+    × (printedFile originsProgram cellFile ≡ cellText)

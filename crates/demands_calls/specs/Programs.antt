@@ -1,14 +1,14 @@
 -- What is promised of the calls programs beside their runs and files, which both sides of those statements share: what a record decodes to, the kind
 -- and length of its line, and how a request is served. Proved in proofs/Programs.antt. Assumes nothing.
 use mathlib.Core.Path.{_≡_}
-use mathlib.Core.Logic.{_≢_}
+use mathlib.Core.Logic.{_≢_, _⊎_}
 use mathlib.Core.List.{List}
 use mathlib.Core.Option.{Option, none, some}
 use Prim.Native.Nat.{ℕ, _≤_, _<_}
 use lib.ListN.{length}
 use Rattle.map.specs.declared.Map.{Map}
 use Rattle.plain.specs.Call as base
-use Rattle.plain.specs.Call.{done, refusal}
+use Rattle.plain.specs.Call.{record-block, record-written, record-literal, free, written, ask, valid-write, valid-read, initialised, next, audit, done, refusal}
 use Rattle.shadows.specs.Shadows.{Shadows, zeroShadows}
 use Rattle.monitor_base.specs.Calls as monitor
 use Rattle.origins_list.specs.Call as form
@@ -34,6 +34,32 @@ KindsTold =
     → (decoded.kindOf r ≡ kindField l) × (decoded.lengthOf (decoded.kindOf r) ≡ lengthField l) × (lengthField l ≤ length l))
     × ((r : with-origins.Request) → with-origins.decode l ≡ some r
     → (with-origins.kindOf r ≡ kindField l) × (with-origins.lengthOf (with-origins.kindOf r) ≡ lengthField l) × (lengthField l ≤ length l))
+
+-- records of kind k, of so many bytes, decode to this in both programs; one of another length does not, nor one that is cut
+abbrev pub Decodes : (k size : ℕ) → (asks : List ℕ → records.Request) → Type 0
+Decodes k size asks =
+    (l : List ℕ) → kindField l ≡ k
+    → (lengthField l ≡ size → size ≤ length l → (records.decode l ≡ some (asks l)) × (with-origins.decode l ≡ some (asked (asks l))))
+    × (lengthField l ≢ size → (records.decode l ≡ none) × (with-origins.decode l ≡ none))
+    × (length l < size → (records.decode l ≡ none) × (with-origins.decode l ≡ none))
+
+-- "Kinds: 1 map (20 bytes long), 2 record (12), 3 free (8)" and so on to 9; S-1: kind 10 (base, length); S-5: kind 14 (base, length) and kind 15
+-- (address, n, from). Each has its fields in their order, and the plain program knows no other kind
+abbrev pub KindsDecode : Type 0
+KindsDecode =
+    Decodes 1 20 (λ l. newMap (record { «heap_start» = field l 0; «heap_size» = field l 1; «stack_start» = field l 2; «stack_size» = field l 3 }))
+    × Decodes 2 12 (λ l. call (record-block (field l 0) (field l 1)))
+    × Decodes 3 8 (λ l. call (free (field l 0)))
+    × Decodes 4 12 (λ l. call (written (field l 0) (field l 1)))
+    × Decodes 5 8 (λ l. call (ask (field l 0)))
+    × Decodes 6 16 (λ l. call (valid-write (field l 0) (field l 1) (field l 2)))
+    × Decodes 7 12 (λ l. call (initialised (field l 0) (field l 1)))
+    × Decodes 8 8 (λ l. call (next (field l 0)))
+    × Decodes 9 4 (λ l. call audit)
+    × Decodes 10 12 (λ l. call (record-written (field l 0) (field l 1)))
+    × Decodes 14 12 (λ l. call (record-literal (field l 0) (field l 1)))
+    × Decodes 15 16 (λ l. call (valid-read (field l 0) (field l 1) (field l 2)))
+    × ((l : List ℕ) → (kindField l ≡ 0) ⊎ ((11 ≤ kindField l) × (kindField l ≤ 13)) ⊎ (16 ≤ kindField l) → records.decode l ≡ none)
 
 -- "which takes the plain kinds too": a record of any other kind than 11 to 13 decodes as in the plain program, or does not, as there
 abbrev pub OthersAsPlain : Type 0

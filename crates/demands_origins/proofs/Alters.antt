@@ -14,11 +14,13 @@ use Rattle.map.proofs.MapLaws.{Good, good-true}
 use Rattle.plain.specs.Areas.{mapRules}
 use Rattle.plain.specs.Join.{writeOne}
 use Rattle.plain.specs.Reading.{Reading, nothing, block, damaged}
+use Rattle.plain.specs.declared.Beginning.{Beginning}
+use Rattle.plain.specs.declared.Beginning.the-variants.{Unwritten, Written, Literal}
 use Rattle.plain.specs.Call.{clear, begin, free, written, ask, valid, initialised, next, audit, Answer, yesNo, firstOf, unless}
 use Rattle.plain.specs.ShadowCalls.{isDamaged, isFirst, lengthOf}
 use Rattle.shadows.specs.Shadows.{lengthsFit, shadowOps}
 use Rattle.demands.specs.Addresses.{inHeap, outside, readingAt}
-use Rattle.demands.specs.Numbers.{isUnaligned}
+use Rattle.demands.specs.Numbers.{isMisplaced, isUnaligned}
 use Rattle.demands.proofs.Numbers.{reading-words}
 use Rattle.demands.proofs.Readings.{blocks-read}
 use Rattle.demands.proofs.RowLaws.{not-missed}
@@ -68,14 +70,20 @@ cell-aligned m x c e = eqb-true (c % 4) 0 (not-false (eqb (c % 4) 0) (or-false (
 
 -- ---- recording
 
+-- a block that is not out of place begins in an area
+placed-in : (m : Map) (h : Beginning) (b l : ℕ) → isMisplaced m (begin h b l) ≡ false → outside m b ≡ false
+placed-in m Unwritten b l e = or-false (outside m b) _ e .0
+placed-in m Written b l e = or-false (outside m b) _ e .0
+placed-in m Literal b l e = or-false (inHeap m b) (outside m b) (or-false (inHeap m b || outside m b) _ e .0) .1
+
 pub record-stores : RecordStores
-record-stores m w b l x e =
-    let K = checked m (plain (begin w b l)) x e in
-    let h = accepted-exactly m (plain (begin w b l)) x .1 e in
-    let o : outside m b ≡ false = or-false (outside m b) _ (h .1 .1 .1 .0) .0 in
-    let d : b % 4 ≡ 0 = eqb-true (b % 4) 0 (not-false (eqb (b % 4) 0) (or-false (isUnaligned m (begin w b l)) (offCell (begin w b l)) (h .1 .1 .1 .1 .0) .1)) in (
-      λ q. ap (λ y. byteAt y q) (now m (plain (begin w b l)) x e) ∙ origin-set m (K .good) (x .cells) (K .long) b d o (x .counter) q,
-      rw (accepted m (plain (begin w b l)) x e),
+record-stores m h b l x e =
+    let K = checked m (plain (begin h b l)) x e in
+    let k = accepted-exactly m (plain (begin h b l)) x .1 e in
+    let o : outside m b ≡ false = placed-in m h b l (k .1 .1 .1 .0) in
+    let d : b % 4 ≡ 0 = eqb-true (b % 4) 0 (not-false (eqb (b % 4) 0) (or-false (isUnaligned m (begin h b l)) (offCell (begin h b l)) (k .1 .1 .1 .1 .0) .1)) in (
+      λ q. ap (λ y. byteAt y q) (now m (plain (begin h b l)) x e) ∙ origin-set m (K .good) (x .cells) (K .long) b d o (x .counter) q,
+      rw (accepted m (plain (begin h b l)) x e),
     )
 
 -- ---- free
@@ -93,13 +101,13 @@ module _ (m : Map) (b : ℕ) (x : State) (e : numberOf m (plain (free (suc b))) 
     where
       go : (r : Reading) → readingAt m (x .shadows) (suc b) ≡ r → isFirst r ≡ true → Lies m (suc b) (lengthOf r)
       go nothing q f = absurd (false≢true f)
-      go (block c l o w) q f =
-          let t = blocks-read m (x .shadows) (suc b) c l o w q in
+      go (block c l o w k) q f =
+          let t = blocks-read m (x .shadows) (suc b) c l o w k q in
           let z : o ≡ 0 = eqb-true o 0 f in
           record {
             some = omega (arith, t .1);
-            heap = λ i. let u = t .3 i in (omega (arith, t .0), omega (arith, t .0));
-            stack = λ i. let u = t .4 i in (omega (arith, t .0), omega (arith, t .0));
+            heap = λ i. let u = t .4 i in (omega (arith, t .0), omega (arith, t .0));
+            stack = λ i. let u = t .5 i in (omega (arith, t .0), omega (arith, t .0));
           }
       go damaged q f = absurd (false≢true f)
 
@@ -135,12 +143,12 @@ counter-left m c x n = stays (λ (y : State). y .counter) m c x (go c n)
   where
     go : (c : Call) → isRecording c ≡ false → (does m c x) .0 .counter ≡ x .counter
     go (plain clear) n = refl
-    go (plain (begin w b l)) n = absurd (true≢false n)
+    go (plain (begin h b l)) n = absurd (true≢false n)
     go (plain (free zero)) n = refl
     go (plain (free (suc b))) n = refl
     go (plain (written a k)) n = refl
     go (plain (ask a)) n = refl
-    go (plain (valid a k from)) n = refl
+    go (plain (valid w a k from)) n = refl
     go (plain (initialised a k)) n = refl
     go (plain (next a)) n = refl
     go (plain audit) n = refl
@@ -153,12 +161,12 @@ cells-left m c x n = stays (λ (y : State). y .cells) m c x (go c n)
   where
     go : (c : Call) → leavesCells c ≡ true → (does m c x) .0 .cells ≡ x .cells
     go (plain clear) n = absurd (false≢true n)
-    go (plain (begin w b l)) n = absurd (false≢true n)
+    go (plain (begin h b l)) n = absurd (false≢true n)
     go (plain (free zero)) n = refl
     go (plain (free (suc b))) n = absurd (false≢true n)
     go (plain (written a k)) n = refl
     go (plain (ask a)) n = refl
-    go (plain (valid a k from)) n = refl
+    go (plain (valid w a k from)) n = refl
     go (plain (initialised a k)) n = refl
     go (plain (next a)) n = refl
     go (plain audit) n = refl
@@ -198,12 +206,12 @@ module _ (m : Map) where
 
   after-long : (c : Call) (x : State) → CellsLong m (x .cells) → AsLong (x .cells) ((does m c x) .0 .cells)
   after-long (plain clear) x f = (length-replicate (2 * m .«heap_size») 0 ∙ sym (f .0), length-replicate (2 * m .«stack_size») 0 ∙ sym (f .1))
-  after-long (plain (begin w b l)) x f = set-long (x .cells) b _ _ (x .counter)
+  after-long (plain (begin h b l)) x f = set-long (x .cells) b _ _ (x .counter)
   after-long (plain (free zero)) x f = (refl, refl)
   after-long (plain (free (suc b))) x f = zeroed-long (x .cells) (suc b) _
   after-long (plain (written a n)) x f = (refl, refl)
   after-long (plain (ask a)) x f = (refl, refl)
-  after-long (plain (valid a n from)) x f = (refl, refl)
+  after-long (plain (valid w a n from)) x f = (refl, refl)
   after-long (plain (initialised a n)) x f = (refl, refl)
   after-long (plain (next a)) x f = (refl, refl)
   after-long (plain audit) x f = (refl, refl)

@@ -57,7 +57,7 @@ module _ (m : Map) (g : Good m) where
 
   pub block-words : (x : Cells) (r : Reading) → originRead (cellOps m) x r ≡ originOfBlock m x r
   block-words x nothing = refl
-  block-words x (block b l o w) = origin-words x b
+  block-words x (block b l o w t) = origin-words x b
   block-words x damaged = refl
 
 -- ---- a half of a cell is set

@@ -41,7 +41,7 @@ number-first m c x = unless-number (firstOf (refusals m c x)) x _ (answered-0 m 
 
 four-words : (r : Reading) → inOne 4 r ≡ fourInOne r
 four-words nothing = refl
-four-words (block b l o w) = refl
+four-words (block b l o w t) = refl
 four-words damaged = refl
 
 not-and : (p q : Bool) → not (p && q) ≡ (not p || not q)
@@ -61,13 +61,13 @@ either-of n false q k = refl
 
 pub later-rows : (m : Map) (c : Call) (x : State) → firstOf (byState (mapRules m) (shadowOps m) (cellOps m) c x) ≡ firstOf (pastTwo (rows m c x))
 later-rows m (plain clear) x = refl
-later-rows m (plain (begin w b l)) x =
-    rw (misplaced-words m b l, unaligned-words m b, taken-words m (x .shadows) b l, either-of 5 _ (offCell (begin w b l)) _)
+later-rows m (plain (begin h b l)) x =
+    rw (misplaced-words m h b l, unaligned-words m b, taken-words m (x .shadows) b l, either-of 5 _ (offCell (begin h b l)) _)
 later-rows m (plain (free zero)) x = refl
 later-rows m (plain (free (suc b))) x = base.later-rows m (free (suc b)) (x .shadows)
 later-rows m (plain (written a n)) x = base.later-rows m (written a n) (x .shadows)
 later-rows m (plain (ask a)) x = base.later-rows m (ask a) (x .shadows)
-later-rows m (plain (valid a n from)) x = base.later-rows m (valid a n from) (x .shadows)
+later-rows m (plain (valid w a n from)) x = base.later-rows m (valid w a n from) (x .shadows)
 later-rows m (plain (initialised a n)) x = base.later-rows m (initialised a n) (x .shadows)
 later-rows m (plain (next a)) x = base.later-rows m (next a) (x .shadows)
 later-rows m (plain audit) x = refl

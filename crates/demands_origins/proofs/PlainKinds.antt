@@ -12,7 +12,7 @@ use Rattle.map.specs.declared.Map.{Map}
 use Rattle.map.specs.Map.{goodMap}
 use Rattle.plain.specs.Areas.{mapRules}
 use Rattle.plain.specs.Call as base
-use Rattle.plain.specs.Call.{clear, begin, free, written, ask, valid, initialised, next, audit, Answer, Refusal, firstOf, unless, byRules}
+use Rattle.plain.specs.Call.{clear, begin, free, written, ask, valid, initialised, next, audit, Answer, Refusal, firstOf, unless, allows, byRules}
 use Rattle.plain.specs.ShadowCalls.{byShadows, shadowAnswer}
 use Rattle.shadows.specs.Shadows.{lengthsFit, shadowOps}
 use Rattle.monitor_base.specs.Calls as monitor
@@ -69,14 +69,14 @@ module _ (m : Map) (x : State) where
   rest : (c : base.Call)
       → firstOf (byState (mapRules m) (shadowOps m) (cellOps m) (plain c) x) ≡ fromPlain (later c) true (offCell c) (outOfRange c (x .counter))
   rest clear = other (later clear)
-  rest (begin w b l) =
-      recording (eqb l 0) (not (mapRules m .fits b l)) (not (mapRules m .aligned b)) (offCell (begin w b l))
-      (not (shadowOps m .vacant (x .shadows) b l)) (outOfRange (begin w b l) (x .counter))
+  rest (begin h b l) =
+      recording (eqb l 0) (not (allows (mapRules m) h b l)) (not (mapRules m .aligned b)) (offCell (begin h b l))
+      (not (shadowOps m .vacant (x .shadows) b l)) (outOfRange (begin h b l) (x .counter))
   rest (free zero) = other (later (free zero))
   rest (free (suc b)) = other (later (free (suc b)))
   rest (written a n) = other (later (written a n))
   rest (ask a) = other (later (ask a))
-  rest (valid a n from) = other (later (valid a n from))
+  rest (valid w a n from) = other (later (valid w a n from))
   rest (initialised a n) = other (later (initialised a n))
   rest (next a) = other (later (next a))
   rest audit = other (later audit)
@@ -97,7 +97,7 @@ module _ (m : Map) (x : State) where
             l,
             f,
             before.later-rows m c (x .shadows),
-            neither (pastTwo (rows m c (x .shadows))) (omega arith, (omega arith, (omega arith, (omega arith, (omega arith, (omega arith, tt)))))),
+            neither (pastTwo (rows m c (x .shadows))) (omega arith, (omega arith, (omega arith, (omega arith, (omega arith, (omega arith, (omega arith, tt))))))),
           )
       go (is-true g) (is-true l) (is-true f) = rw (g, l, f) (rest c)
 

@@ -3,15 +3,13 @@
 use mathlib.Core.Path.{_≡_}
 use mathlib.Core.Logic.{_≢_}
 use mathlib.Core.Bool.{Bool, true, false, cond, not, _&&_}
-use mathlib.Core.List.{List}
-use Prim.Native.Nat.{ℕ, zero, suc, _+_, _*_, _-_, _/_, _%_, _≤_, _<_}
+use Prim.Native.Nat.{ℕ, zero, suc, _+_, _*_, _-_, _%_, _≤_, _<_}
 use lib.ListN.{length}
-use lib.Dec.{leb, ltb, eqb}
 use Rattle.number.specs.Little.{byteOf, word}
 use Rattle.number.specs.Parts.{at, inPart}
 use Rattle.map.specs.declared.Map.{Map}
+use Rattle.plain.specs.declared.Beginning.{Beginning}
 use Rattle.plain.specs.Reading.{Reading, nothing, block, damaged}
-use Rattle.plain.specs.Call as base
 use Rattle.plain.specs.Call.{clear, begin, free, written, ask, valid, initialised, next, audit, answer}
 use Rattle.plain.specs.ShadowCalls.{lengthOf}
 use Rattle.demands.specs.Addresses.{inHeap, readingAt}
@@ -56,7 +54,7 @@ referentIn m x c = numberIn m x c 4
 -- "the origin of the address's block, or 0 where there is none": that in the cell of the block's base
 abbrev pub originOfBlock : Map → Cells → Reading → ℕ
 originOfBlock m x nothing = 0
-originOfBlock m x (block b l o w) = originIn m x (cellStart b)
+originOfBlock m x (block b l o w t) = originIn m x (cellStart b)
 originOfBlock m x damaged = 0
 
 -- the cells after a call
@@ -67,10 +65,10 @@ cellsLeft m c x = (call m c x) .0 .cells
 -- counter's, no other byte of the cells is altered, and the counter is one more
 abbrev pub RecordStores : Type 0
 RecordStores =
-    (m : Map) (w : Bool) (b l : ℕ) (x : State) → numberOf m (plain (begin w b l)) x ≡ 0
-    → ((q : Place) → byteAt (cellsLeft m (plain (begin w b l)) x) q
+    (m : Map) (h : Beginning) (b l : ℕ) (x : State) → numberOf m (plain (begin h b l)) x ≡ 0
+    → ((q : Place) → byteAt (cellsLeft m (plain (begin h b l)) x) q
     ≡ cond (inCell m b 0 4 q) (byteOf (x .counter) (nth m b 0 q)) (byteAt (x .cells) q))
-    × ((call m (plain (begin w b l)) x) .0 .counter ≡ suc (x .counter))
+    × ((call m (plain (begin h b l)) x) .0 .counter ≡ suc (x .counter))
 
 -- "Freeing zeroes each cell that touches the block": both halves of each cell that has one of the block's addresses, and no other byte
 abbrev pub FreeZeroesCells : Type 0
@@ -99,12 +97,12 @@ CounterLeft = (m : Map) (c : Call) (x : State) → isRecording c ≡ false → (
 -- free of address 0, written, ask, valid, initialised, next, audit and kind 13 leave the cells; kinds 11 to 13 leave the three block shadows
 abbrev pub leavesCells : Call → Bool
 leavesCells (plain clear) = false
-leavesCells (plain (begin w b l)) = false
+leavesCells (plain (begin h b l)) = false
 leavesCells (plain (free zero)) = true
 leavesCells (plain (free (suc x))) = false
 leavesCells (plain (written a n)) = true
 leavesCells (plain (ask a)) = true
-leavesCells (plain (valid a n from)) = true
+leavesCells (plain (valid w a n from)) = true
 leavesCells (plain (initialised a n)) = true
 leavesCells (plain (next a)) = true
 leavesCells (plain audit) = true

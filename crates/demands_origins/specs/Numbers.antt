@@ -15,7 +15,7 @@ use Rattle.plain.specs.Call.{clear, begin, free, written, ask, valid, initialis
 use Rattle.plain.specs.ShadowCalls.{isDamaged}
 use Rattle.shadows.specs.Shadows.{lengthsFit}
 use Rattle.demands.specs.Addresses.{outside, readingAt}
-use Rattle.demands.specs.Numbers.{isEmpty, isMisplaced, isUnaligned, isTaken, blockMissed, damageMet}
+use Rattle.demands.specs.Numbers.{isEmpty, isMisplaced, isUnaligned, isTaken, blockMissed, damageMet, intoLiteral}
 use Rattle.origins_list.specs.Call.{Call, plain, point, copy, live}
 use Rattle.origins_base.specs.Calls.{State}
 
@@ -40,12 +40,12 @@ misplaced m (live c a) = outside m c
 
 -- the base of a recording
 abbrev pub recorded : base.Call → Option ℕ
-recorded (begin w b l) = some b
+recorded (begin h b l) = some b
 recorded clear = none
 recorded (free x) = none
 recorded (written a n) = none
 recorded (ask a) = none
-recorded (valid a n from) = none
+recorded (valid w a n from) = none
 recorded (initialised a n) = none
 recorded (next a) = none
 recorded audit = none
@@ -89,7 +89,7 @@ damageRead m (live c a) x = isDamaged (readingAt m (x .shadows) c) || isDamaged 
 -- the four bytes from the one that was read on lie in its block: offset + 4 ≤ L
 abbrev pub fourInOne : Reading → Bool
 fourInOne nothing = false
-fourInOne (block b l o w) = leb (o + 4) l
+fourInOne (block b l o w t) = leb (o + 4) l
 fourInOne damaged = false
 
 -- "a pointer cell that is no multiple of 4 or whose four bytes are not in one block"
@@ -119,8 +119,16 @@ noOrigin (point c a) x = false
 noOrigin (copy t f) x = false
 noOrigin (live c a) x = false
 
+-- 13, S-5: "written into a literal"; kinds 11 and 12 are no such call
+abbrev pub writesLiteral : Map → Call → State → Bool
+writesLiteral m (plain c) x = intoLiteral m c (x .shadows)
+writesLiteral m (point c a) x = false
+writesLiteral m (copy t f) x = false
+writesLiteral m (live c a) x = false
+
 -- the rows of the table, by their numbers; 7 "never where 8 holds"
 abbrev pub rows : Map → Call → State → List Refusal
 rows m c x =
     (1, not (goodMap m)) ∷ (2, lengthsDiffer m x) ∷ (3, noBytes c) ∷ (4, misplaced m c) ∷ (5, baseUnaligned m c) ∷ (6, placeTaken m c x)
-    ∷ (7, noBlock m c x && not (damageRead m c x)) ∷ (8, damageRead m c x) ∷ (11, noPointer m c x) ∷ (12, noOrigin c x) ∷ []
+    ∷ (7, noBlock m c x && not (damageRead m c x)) ∷ (8, damageRead m c x) ∷ (11, noPointer m c x) ∷ (12, noOrigin c x)
+    ∷ (13, writesLiteral m c x) ∷ []

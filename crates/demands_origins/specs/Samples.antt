@@ -7,7 +7,7 @@ use mathlib.Core.List.{List, [], _∷_}
 use Prim.Native.Nat.{ℕ}
 use lib.ListN.{replicate}
 use lib.Dec.{eqb}
-use Rattle.plain.specs.Call.{record-block, record-written, free, written, ask, valid, audit, clear, Answer, answer, refusal, done, yesNo}
+use Rattle.plain.specs.Call.{record-block, record-written, record-literal, free, written, ask, valid-write, valid-read, audit, clear, Answer, answer, refusal, done, yesNo}
 use Rattle.demands.specs.GivenShadows.{Part, put}
 use Rattle.demands.specs.Samples.{sampleMap, sameAnswer, sameBytes}
 use Rattle.origins_list.specs.Call.{Call, plain, point, copy, live}
@@ -130,6 +130,12 @@ refused =
     -- "every recorded base is a multiple of 4, else 5", before 6
     ∷ one (given ((2, 4 ∷ []) ∷ []) [] 1) (plain (record-block 8194 2)) (refusal 5) 1
     ∷ one begun (plain (record-block 4108 4)) (refusal 5) 1
+    -- of a literal a heap base is 4, aligned or not, and comes before 5
+    ∷ one begun (plain (record-literal 4108 4)) (refusal 4) 1
+    ∷ one begun (plain (record-literal 4104 4)) (refusal 4) 1
+    ∷ one begun (plain (record-literal 8222 4)) (refusal 4) 1
+    ∷ one begun (plain (record-literal 8198 2)) (refusal 5) 1
+    ∷ one (given [] [] 0) (plain (record-literal 8192 8)) (refusal 12) 0
     -- "2 covers the cells' lengths too", of every call
     ∷ one (long 127 64) (plain (ask 8192)) (refusal 2) 1
     ∷ one (long 128 63) (plain (record-block 8192 0)) (refusal 2) 1
@@ -168,7 +174,7 @@ followed =
     -- a pointer kept across free and a new block in the same place: valid says 1, kind 13 says 0; a copy of it is stale too
     runs begun
     (plain (record-block 8192 8) ∷ plain (record-block 4104 8) ∷ point 8192 4104 ∷ live 8192 4111 ∷ live 8192 4112 ∷ plain (free 4104) ∷ live 8192 4104
-    ∷ copy 8196 8192 ∷ plain (record-block 4104 8) ∷ plain (valid 4104 8 4104) ∷ live 8192 4104 ∷ live 8196 4104 ∷ point 8192 4104 ∷ live 8192 4111
+    ∷ copy 8196 8192 ∷ plain (record-block 4104 8) ∷ plain (valid-write 4104 8 4104) ∷ live 8192 4104 ∷ live 8196 4104 ∷ point 8192 4104 ∷ live 8192 4111
     ∷ live 8196 4111 ∷ [])
     (done ∷ done ∷ done ∷ yesNo true ∷ done ∷ done ∷ done ∷ done ∷ done ∷ yesNo true ∷ done ∷ done ∷ done ∷ yesNo true ∷ done ∷ [])
     4
@@ -189,6 +195,12 @@ followed =
     (plain (record-block 8192 4) ∷ plain (record-block 8192 4) ∷ plain (written 8192 4) ∷ plain clear ∷ plain (record-block 8192 4) ∷ [])
     (done ∷ refusal 6 ∷ done ∷ done ∷ done ∷ [])
     3
+    -- a literal has an origin too; its cell may hold a pointer, which is no writing of it
+    ∷ runs begun
+    (plain (record-literal 8192 4) ∷ point 8192 8192 ∷ live 8192 8195 ∷ plain (written 8192 4) ∷ plain (valid-write 8192 4 8192)
+    ∷ plain (valid-read 8192 4 8192) ∷ plain audit ∷ [])
+    (done ∷ done ∷ yesNo true ∷ refusal 13 ∷ done ∷ yesNo true ∷ answer 0 0 1 4 4 ∷ [])
+    2
     ∷ []
 
 abbrev pub SamplesHold : Type 0

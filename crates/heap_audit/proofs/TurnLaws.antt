@@ -35,10 +35,10 @@ unfolding ones
 ones-append [] b = sym (zero-add (ones b))
 ones-append (x ∷ xs) b = omega (arith, ones-append xs b)
 
-beside-begins : (b l m base : ℕ) (f : Found) → beside b l m (begins base f) ≡ beside (b + 1) l m f
+beside-begins : (b l m base : ℕ) (t : Bool) (f : Found) → beside b l m (begins base t f) ≡ beside (b + 1) l m f
 unfolding beside total ones
-beside-begins b l m base bad = refl
-beside-begins b l m base (got ms bs) =
+beside-begins b l m base t bad = refl
+beside-begins b l m base t (got ms bs) =
     let x : b + suc (length bs) ≡ b + 1 + length bs = omega arith in
     rw (x, zero-add (length ms + live bs), zero-add (ones ms + written bs))
 
@@ -83,7 +83,7 @@ module _ (h : List ℕ) (s : ℕ) (w : Walk) (low high : ℕ) (t : Stands h s w 
     unfolding rest
     turn-opens a b c = (
       rw (one-less, z, none-goes, walk-opens (length h) (at h) (t .bytes) left s low high (t .lows) (t .highs) a b (omega arith), add-one s)
-          (beside-begins (w .blocks) (w .live) (w .written) (suc s * 8) (heapWalk 4 8 (length h) (at h) left (suc s) high 0)),
+          (beside-begins (w .blocks) (w .live) (w .written) (suc s * 8) false (heapWalk 4 8 (length h) (at h) left (suc s) high 0)),
       omega arith,
     )
 
@@ -137,10 +137,10 @@ module _ (h : List ℕ) (s : ℕ) (w : Walk) (low high : ℕ) (t : Stands h s w 
 
 -- ---- the start and the end of the walk
 
-begun-totals : (size base : ℕ) (f : Found) → totals (heapRules 8 0 size) (begins base f) ≡ beside 0 0 0 (begins base f)
+begun-totals : (size base : ℕ) (t : Bool) (f : Found) → totals (heapRules 8 0 size) (begins base t f) ≡ beside 0 0 0 (begins base t f)
 unfolding beside total ones
-begun-totals size base bad = refl
-begun-totals size base (got ms bs) =
+begun-totals size base t bad = refl
+begun-totals size base t (got ms bs) =
     let x : 0 + suc (length bs) ≡ 1 + length bs = omega arith in
     let y : 0 + (0 + (length ms + live bs)) ≡ length ms + live bs = omega arith in
     let z : 0 + (0 + (ones ms + written bs)) ≡ ones ms + written bs = omega arith in
@@ -158,7 +158,7 @@ walk-totals size f (suc n) s =
         → totals (heapRules 8 0 size) (heapWalk 4 8 size f n (suc s) 0 0) ≡ beside 0 0 0 (heapWalk 4 8 size f n (suc s) 0 0)
         → totals (heapRules 8 0 size) (heapWalk 4 8 size f (suc n) s 0 0) ≡ beside 0 0 0 (heapWalk 4 8 size f (suc n) s 0 0)
     go (is-true a) b ih = rw a ih
-    go (is-false a) (is-true b) ih = rw (a, b) (begun-totals size (suc s * 8) (heapWalk 4 8 size f n (suc s) (word f (s * 8 + 4) 4) 0))
+    go (is-false a) (is-true b) ih = rw (a, b) (begun-totals size (suc s * 8) false (heapWalk 4 8 size f n (suc s) (word f (s * 8 + 4) 4) 0))
     go (is-false a) (is-false b) ih = rw (a, b)
 
 -- at the start nothing is counted

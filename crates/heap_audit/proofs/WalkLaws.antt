@@ -88,7 +88,7 @@ module _ (size : ℕ) (f : ℕ → ℕ) (bytes : (q : ℕ) → f q < 256) (n s l
   walk-past a b c = rw (free-is, eq-eqb low 0 a, ne-eqb high 0 b, ← y, le-leb 1 high (omega arith), lt-leb (suc s * 8 + high) size c)
 
   pub walk-opens : low ≡ 0 → (high ≡ 0 → ⊥) → suc s * 8 + high ≤ size
-      → heapWalk 4 8 size f (suc n) s 0 0 ≡ begins (suc s * 8) (heapWalk 4 8 size f n (suc s) high 0)
+      → heapWalk 4 8 size f (suc n) s 0 0 ≡ begins (suc s * 8) false (heapWalk 4 8 size f n (suc s) high 0)
   unfolding heapWalk
   walk-opens a b c =
       rw (free-is, eq-eqb low 0 a, ne-eqb high 0 b, ← y, le-leb 1 high (omega arith), le-leb (suc s * 8 + high) size c, header-is, eq-eqb low 0 a, eq-eqb high high refl)

@@ -1,12 +1,15 @@
 -- The written bits at segments of 8 bytes with numbers of 4: one byte, the fifth of the segment. Assumes nothing.
 use mathlib.Core.Path.{_≡_, _∙_}
-use mathlib.Core.Bool.{Bool, _&&_}
+use mathlib.Core.Bool.{Bool, false, _&&_}
 use mathlib.Core.List.{List}
 use Prim.Native.Nat.{ℕ, _+_, _*_, _/_, _%_, _≤_, _<_}
 use native.Mathlib.Omega.{arith}
 use lib.ListN.{length, set}
+use lib.Dec.{eqb}
+use borrow.Author.Tests.{ne-eqb}
 use Rattle.number.specs.Bits.{bitOf, withBits, bitsSet}
 use Rattle.number.specs.Parts.{at}
+use Rattle.number.proofs.BitLaws.{bitOf-lt}
 use Rattle.plain.specs.Ops.{markRange, rangeMarked}
 use Rattle.plain.proofs.MarkedLaws.{mark-next, marked-next}
 use Rattle.heap_layout.specs.Reading.{bitsPlace, writtenBit}
@@ -21,6 +24,10 @@ low p = omega arith
 
 pub bit-at : (f : ℕ → ℕ) (p : ℕ) → writtenBit 4 8 f p ≡ bitOf (f (p / 8 * 8 + 4)) (p % 8)
 bit-at f p = rw (place p, low p)
+
+-- a written bit alone has no bit 1
+pub bit-alone : (b j : ℕ) → (bitOf b j % 2 ≡ bitOf b j) × (eqb (bitOf b j / 2 % 2) 1 ≡ false)
+bit-alone b j = (omega (arith, bitOf-lt b j), ne-eqb (bitOf b j / 2 % 2) 1 (λ e. omega (arith, bitOf-lt b j)))
 
 -- n positions of one segment: byte k has their bits, from bit j on
 module _ (size : ℕ) (h : List ℕ) (p n k j : ℕ) (x : j + n ≤ 8) (u : k ≡ p / 8 * 8 + 4) (v : j ≡ p % 8) where

@@ -1,6 +1,6 @@
 -- The reading of a position whose segment has a number, a base inside the area, and a length in its header. Assumes nothing.
 use mathlib.Core.Path.{_≡_}
-use mathlib.Core.Bool.{cond}
+use mathlib.Core.Bool.{false, cond}
 use Prim.Native.Nat.{ℕ, _+_, _*_, _-_, _/_, _%_, _≤_}
 use native.Mathlib.Omega.{arith}
 use lib.Dec.{leb, ltb, eqb}
@@ -16,7 +16,7 @@ told W G size f p d L =
     cond (ltb size (p / G * G - d + L)) damaged
     (cond (leb L d) damaged
     (cond (leb L (p - (p / G * G - d))) nothing
-    (block (p / G * G - d) L (p - (p / G * G - d)) (writtenBit W G f p))))
+    (block (p / G * G - d) L (p - (p / G * G - d)) (writtenBit W G f p) false)))
 
 -- a length of 0 needs no test of its own
 no-length : (W G size : ℕ) (f : ℕ → ℕ) (p d L : ℕ) → cond (eqb L 0) damaged (told W G size f p d L) ≡ told W G size f p d L

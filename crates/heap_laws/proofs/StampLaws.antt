@@ -9,7 +9,8 @@ use borrow.Author.Tests.{lt-ltb, le-leb, eq-eqb, ne-eqb}
 use Rattle.number.specs.Bits.{ofBits}
 use Rattle.number.specs.Parts.{over}
 use Rattle.number.proofs.PartLaws.{over-next, over-ext}
-use Rattle.plain.specs.Block.{begun}
+use Rattle.plain.specs.declared.Beginning.{Beginning}
+use Rattle.plain.specs.Block.{startsWritten, begun}
 use Rattle.plain.specs.Areas.{segments}
 use Rattle.plain.specs.Layer.{layer}
 use Rattle.heap_layout.specs.Image.{covers, own, heapByte}
@@ -48,45 +49,45 @@ segment-marks w (suc n) (suc d) (suc l) = let e : suc l - suc d ≡ l - d = omeg
 -- ---- the place
 
 -- d bytes from the base on are those of the block as it begins
-abbrev pub placed : (w : Bool) (b l d : ℕ) → List ℕ → List ℕ
-placed w b l d h = over b d (heapByte 4 8 (begun w b l ∷ [])) h
+abbrev pub placed : (how : Beginning) (b l d : ℕ) → List ℕ → List ℕ
+placed how b l d h = over b d (heapByte 4 8 (begun how b l ∷ [])) h
 
-module _ (w : Bool) (b l : ℕ) (x : 8 ≤ b) (y : b % 8 ≡ 0) where
-  begun-header : (q : ℕ) → b - 8 ≤ q → q < b → heapByte 4 8 (begun w b l ∷ []) q ≡ pairByte 4 0 l (q - (b - 8))
+module _ (how : Beginning) (b l : ℕ) (x : 8 ≤ b) (y : b % 8 ≡ 0) where
+  begun-header : (q : ℕ) → b - 8 ≤ q → q < b → heapByte 4 8 (begun how b l ∷ []) q ≡ pairByte 4 0 l (q - (b - 8))
   unfolding heapByte layer covers own segments
   begun-header q u v =
       let e : suc (q / 8) ≡ b / 8 = omega arith in
       let m : q % 8 ≡ q - (b - 8) = omega arith in
-      rw (length-replicate l w, le-leb (b / 8) (suc (q / 8)) (omega arith), lt-ltb (q / 8) (b / 8 + (l + 7) / 8) (omega arith), eq-eqb (suc (q / 8)) (b / 8) e, m)
+      rw (length-replicate l (startsWritten how), le-leb (b / 8) (suc (q / 8)) (omega arith), lt-ltb (q / 8) (b / 8 + (l + 7) / 8) (omega arith), eq-eqb (suc (q / 8)) (b / 8) e, m)
       (cell-header 4 l (q - (b - 8)) (omega arith))
 
   begun-segment : (d n q : ℕ) → d % 8 ≡ 0 → d < l → n ≡ min 8 (l - d) → b + d ≤ q → q < b + d + 8
-      → heapByte 4 8 (begun w b l ∷ []) q ≡ pairByte 4 (d + 1) (ofBits (replicate n w)) (q - (b + d))
+      → heapByte 4 8 (begun how b l ∷ []) q ≡ pairByte 4 (d + 1) (ofBits (replicate n (startsWritten how))) (q - (b + d))
   unfolding heapByte layer covers own segments
   begun-segment d n q z k s u v =
       let e : (q / 8 - b / 8) * 8 ≡ d = omega arith in
       let m : q % 8 ≡ q - (b + d) = omega arith in
       rw (
-        length-replicate l w,
+        length-replicate l (startsWritten how),
         le-leb (b / 8) (suc (q / 8)) (omega arith),
         lt-ltb (q / 8) (b / 8 + (l + 7) / 8) (omega arith),
         ne-eqb (suc (q / 8)) (b / 8) (λ k. omega arith),
         e,
         m,
       )
-      (cell-segment 4 d (take 8 (drop d (replicate l w))) (q - (b + d)) (simp (length-take, length-drop) (omega arith))
-      ∙ ap (λ (ms : List Bool). pairByte 4 (d + 1) (ofBits ms) (q - (b + d))) (segment-marks w 8 d l ∙ ap (λ (i : ℕ). replicate i w) (sym s)))
+      (cell-segment 4 d (take 8 (drop d (replicate l (startsWritten how)))) (q - (b + d)) (simp (length-take, length-drop) (omega arith))
+      ∙ ap (λ (ms : List Bool). pairByte 4 (d + 1) (ofBits ms) (q - (b + d))) (segment-marks (startsWritten how) 8 d l ∙ ap (λ (i : ℕ). replicate i (startsWritten how)) (sym s)))
 
   pub placed-more : (d n : ℕ) (h : List ℕ) → d % 8 ≡ 0 → d < l → n ≡ min 8 (l - d)
-      → over (b + d) 8 (λ q. pairByte 4 (d + 1) (ofBits (replicate n w)) (q - (b + d))) (placed w b l d h) ≡ placed w b l (d + 8) h
+      → over (b + d) 8 (λ q. pairByte 4 (d + 1) (ofBits (replicate n (startsWritten how))) (q - (b + d))) (placed how b l d h) ≡ placed how b l (d + 8) h
   placed-more d n h z k s =
-      over-next b d 8 (heapByte 4 8 (begun w b l ∷ [])) (λ q. pairByte 4 (d + 1) (ofBits (replicate n w)) (q - (b + d))) h (λ q u v. sym (begun-segment d n q z k s u v))
+      over-next b d 8 (heapByte 4 8 (begun how b l ∷ [])) (λ q. pairByte 4 (d + 1) (ofBits (replicate n (startsWritten how))) (q - (b + d))) h (λ q u v. sym (begun-segment d n q z k s u v))
 
   pub placed-all : (d : ℕ) (h : List ℕ) → d % 8 ≡ 0 → l ≤ d → d < l + 8
-      → placed w b l d (over (b - 8) 8 (λ q. pairByte 4 0 l (q - (b - 8))) h) ≡ heapStamp 4 8 h (begun w b l)
+      → placed how b l d (over (b - 8) 8 (λ q. pairByte 4 0 l (q - (b - 8))) h) ≡ heapStamp 4 8 h (begun how b l)
   unfolding heapStamp placeLength segments
   placed-all d h z k v =
       let n : 8 + (l + 7) / 8 * 8 ≡ 8 + d = omega arith in
       let e : b - 8 + 8 ≡ b = omega arith in
-      rw (length-replicate l w, n, ← over-ext (b - 8) 8 (heapByte 4 8 (begun w b l ∷ [])) (λ q. pairByte 4 0 l (q - (b - 8))) h (λ q s t. begun-header q s (omega arith)))
-      (rw e at (over-next (b - 8) 8 d (heapByte 4 8 (begun w b l ∷ [])) (heapByte 4 8 (begun w b l ∷ [])) h (λ q s t. refl)))
+      rw (length-replicate l (startsWritten how), n, ← over-ext (b - 8) 8 (heapByte 4 8 (begun how b l ∷ [])) (λ q. pairByte 4 0 l (q - (b - 8))) h (λ q s t. begun-header q s (omega arith)))
+      (rw e at (over-next (b - 8) 8 d (heapByte 4 8 (begun how b l ∷ [])) (heapByte 4 8 (begun how b l ∷ [])) h (λ q s t. refl)))

@@ -43,7 +43,7 @@ module _ {W G size : ℕ} (z : Sizes W G size) (bs : List Block) (P : Placed (he
   marked : (p : ℕ) (b : Block) → find (contains p) bs ≡ some b → heapMarked W G (heapImage W G size bs) p ≡ isWritten b p
   unfolding heapMarked
   marked p b e =
-      let t = reading-told W G size (at (heapImage W G size bs)) p (b .base) (len b) (p - b .base) (bit (isWritten b p)) (reads p ∙ ap (says p) e) in
+      let t = reading-told W G size (at (heapImage W G size bs)) p (b .base) (len b) (p - b .base) (bit (isWritten b p)) (b .literal) (reads p ∙ ap (says p) e) in
       rw (← t .written) (bit-back (isWritten b p))
 
   audits : totals (heapRules G 0 size) (heapWalk W G size (at (heapImage W G size bs)) (size / G) 0 0 0) ≡ some (tallyOf (heapRules G 0 size) bs)

@@ -18,12 +18,12 @@ use Rattle.number.proofs.TestLaws.{Test, is-true, is-false, test, eqb-same, not
 use Rattle.number.proofs.BitLaws.{ofBits-set}
 use Rattle.number.proofs.PartLaws.{is-tab}
 use Rattle.plain.specs.Block.{Block, len, contains, markBlock}
-use Rattle.plain.specs.Blocks.{find, markOne}
+use Rattle.plain.specs.Blocks.{find, markOne, Has}
 use Rattle.plain.specs.Rules.{Rules, Placed, Sound}
 use Rattle.plain.specs.Areas.{segments, heapRules}
 use Rattle.plain.proofs.AreaLaws.{heap-sound}
 use Rattle.plain.proofs.BlockLaws.{contains-true, true-contains}
-use Rattle.plain.proofs.ListLaws.{Has, find-has}
+use Rattle.plain.proofs.ListLaws.{find-has}
 use Rattle.plain.proofs.LayerLaws.{layer-has, layer-mark}
 use Rattle.heap_layout.specs.Image.{free, segment, cellByte, covers, own, segmentOf, heapByte, heapImage}
 use Rattle.heap_layout.specs.Reading.{bitsPlace}

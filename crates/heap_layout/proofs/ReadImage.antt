@@ -14,13 +14,14 @@ use Rattle.number.specs.Little.{word}
 use Rattle.number.specs.Bits.{bit}
 use Rattle.number.proofs.TestLaws.{Where, below, inside, above, locate, in-true, in-below, in-above}
 use Rattle.plain.specs.Block.{Block, len, contains, isWritten}
-use Rattle.plain.specs.Blocks.{find}
+use Rattle.plain.specs.Blocks.{find, Has}
 use Rattle.plain.specs.Rules.{Rules, Placed, Sound}
 use Rattle.plain.specs.Areas.{segments, heapRules}
 use Rattle.plain.specs.Reading.{nothing, block, says, lookup}
-use Rattle.plain.proofs.AreaLaws.{heap-sound}
+use Rattle.plain.proofs.KeptLaws.{has-proper}
+use Rattle.plain.proofs.AreaLaws.{heap-plain, heap-sound}
 use Rattle.plain.proofs.FindLaws.{keepIf}
-use Rattle.plain.proofs.ListLaws.{Has, find-has}
+use Rattle.plain.proofs.ListLaws.{find-has}
 use Rattle.plain.proofs.LayerLaws.{ownOf, listed, find-cover, layer-find, layer-has}
 use Rattle.heap_layout.specs.Image.{Cell, free, header, segment, covers, own, heapByte}
 use Rattle.heap_layout.specs.Reading.{writtenBit, heapReading}
@@ -119,9 +120,9 @@ module _ {W G size : ℕ} (z : Sizes W G size) where
                 )
 
             told : Where (b .base) (b .base + len b) p
-                → cond (leb (len b) (p - b .base)) nothing (block (b .base) (len b) (p - b .base) (writtenBit W G f p)) ≡ says p (keepIf (contains p) (some b))
+                → cond (leb (len b) (p - b .base)) nothing (block (b .base) (len b) (p - b .base) (writtenBit W G f p) false) ≡ says p (keepIf (contains p) (some b))
             told (below x) = absurd (omega (arith, at-base, div-add-mod' p G))
-            told (inside x y) = rw (lt-leb (len b) (p - b .base) (omega arith), in-true (b .base) (b .base + len b) p x y, written)
+            told (inside x y) = rw (lt-leb (len b) (p - b .base) (omega arith), in-true (b .base) (b .base + len b) p x y, written, heap-plain G 0 size b (has-proper R 0 P h))
             told (above x y) = rw (le-leb (len b) (p - b .base) (omega arith), in-above (b .base) (b .base + len b) p x)
 
     -- the reading of an image is the list's own

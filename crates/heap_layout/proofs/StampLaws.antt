@@ -13,12 +13,12 @@ use Rattle.number.specs.Parts.{at, zeros}
 use Rattle.number.proofs.TestLaws.{and-true, false-of}
 use Rattle.number.proofs.PartLaws.{length-tab, at-whole, tab-zero, over-tab, zeros-at, zeros-all}
 use Rattle.plain.specs.Block.{Block, len}
-use Rattle.plain.specs.Blocks.{find, found, any, insert, remove}
+use Rattle.plain.specs.Blocks.{find, found, any, insert, remove, Has}
 use Rattle.plain.specs.Rules.{Rules, meets, Placed, Sound}
 use Rattle.plain.specs.Areas.{segments, heapRules}
 use Rattle.plain.specs.Layer.{layer}
 use Rattle.plain.proofs.AreaLaws.{heap-sound, heap-ranged}
-use Rattle.plain.proofs.ListLaws.{Has, find-has}
+use Rattle.plain.proofs.ListLaws.{find-has}
 use Rattle.plain.proofs.LayerLaws.{Listed, layer-none, layer-apart, layer-insert, layer-remove}
 use Rattle.heap_layout.specs.Image.{free, cellByte, covers, own, segmentOf, heapByte, heapImage}
 use Rattle.heap_layout.specs.Ops.{placeLength, heapVacant, heapStamp, heapErase}

@@ -23,7 +23,7 @@ use Rattle.plain.specs.Rules.{Placed}
 use Rattle.plain.specs.Areas.{segments, heapRules}
 use Rattle.plain.specs.Reading.{says}
 use Rattle.plain.specs.ShadowCalls.{inOne}
-use Rattle.plain.proofs.AreaLaws.{heap-ranged}
+use Rattle.plain.proofs.AreaLaws.{heap-plain, heap-ranged}
 use Rattle.plain.proofs.BlockLaws.{contains-true, true-contains}
 use Rattle.plain.proofs.StampedLaws as plain
 use Rattle.plain.proofs.StampedLaws.{Stamped}
@@ -31,7 +31,7 @@ use Rattle.heap_layout.specs.Image.{covers, heapByte}
 use Rattle.heap_layout.specs.Reading.{bitsPlace, heapReading}
 use Rattle.heap_layout.specs.Ops.{placeLength, heapStamp, heapMark, heapOps}
 use Rattle.heap_layout.proofs.SegmentLaws.{Sizes, some-segment, Stands, stands, aligned-eq, segments-gt, covers-byte, covers-holds, segment-in}
-use Rattle.heap_layout.proofs.ReadingLaws.{read-some, reading-told}
+use Rattle.heap_layout.proofs.ReadingLaws.{read-some, reading-told, reading-plain}
 use Rattle.heap_layout.proofs.ReadImage.{read-image}
 use Rattle.heap_layout.proofs.MarkLaws.{mark-byte}
 
@@ -43,7 +43,7 @@ module _ {W G size : ℕ} (z : Sizes W G size) (h : List ℕ) (fit : length h �
   u = stands g size (b .base) (len b) (t .some) (t .fits) (t .aligned)
 
   alone : Placed (heapRules G 0 size) 0 (b ∷ [])
-  alone = record { some = t .some; fits = t .fits; aligned = t .aligned; room = omega arith; later = tt }
+  alone = record { some = t .some; fits = t .fits; aligned = t .aligned; proper = t .proper; room = omega arith; later = tt }
 
   -- its place ends in the area
   ends : b .base + segments G (len b) * G ≤ size
@@ -68,7 +68,7 @@ module _ {W G size : ℕ} (z : Sizes W G size) (h : List ℕ) (fit : length h �
       let B : ℕ = b .base in
       let F : ℕ → ℕ = heapByte W G (b ∷ []) in
       let f : ℕ → ℕ = at (heapStamp W G h b) in
-      let T = reading-told W G size F B B (len b) (B - B) (bit (isWritten b B)) (read-image z (b ∷ []) alone B ∙ ap (says B) here) in
+      let T = reading-told W G size F B B (len b) (B - B) (bit (isWritten b B)) (b .literal) (read-image z (b ∷ []) alone B ∙ ap (says B) here) in
       let e : B / G * G ≡ B = aligned-eq g B (eqb-true (B % G) 0 (t .aligned)) in
       let n : word f (B / G * G) W ≡ word F (B / G * G) W =
       word-same f F (B / G * G) (B / G * G) W (λ i k. placed (B / G * G + i) (omega arith) (omega (arith, mul-le-mul-right G some-place, u .start))) in
@@ -125,6 +125,7 @@ heap-stamped W G size wide two small whole =
     record {
       stamp-fit = λ h k b. length-over _ _ _ h ∙ k;
       stamp-read = λ h k b t. read-base z h k b t;
+      stamp-literal = λ h k b t. reading-plain W G size (at (heapStamp W G h b)) (b .base) ∙ sym (heap-plain G 0 size b (t .proper));
       stamp-mark = λ h k b t a e. mark-base z h k b t a e;
     }
   where

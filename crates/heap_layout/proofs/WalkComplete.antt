@@ -14,7 +14,7 @@ use Rattle.plain.specs.Block.{Block, len}
 use Rattle.plain.specs.Rules.{Rules, Placed, Sound}
 use Rattle.plain.specs.Areas.{segments, heapRules}
 use Rattle.plain.specs.Found.{got, goesOn}
-use Rattle.plain.proofs.AreaLaws.{heap-sound}
+use Rattle.plain.proofs.AreaLaws.{heap-plain, heap-sound}
 use Rattle.plain.proofs.KeptLaws.{weaken}
 use Rattle.heap_layout.specs.Image.{free, header, segment, segmentOf, heapByte}
 use Rattle.heap_layout.specs.Walk.{matches, heapWalk}
@@ -59,9 +59,9 @@ module _ {W G size : ℕ} (z : Sizes W G size) (f : ℕ → ℕ) where
   not-free s L n l h = false-of (matches W G size f s free) (λ e. omega (arith, header-length z f s L l h, free-length z f s (matches-shows W G size f s free e)))
 
   header-step : (n s d : ℕ) (b : Block) (bs : List Block) (t : Stands G size (b .base) (len b)) → Open n → s ≡ t .head
-      → Placed R (b .base + segments G (len b) * G) bs → Shown W G f (segmentOf G (b ∷ bs)) s (suc n) → size ≤ (s + suc n) * G
-      → heapWalk W G size f (suc n) s 0 d ≡ got [] (b ∷ bs)
-  header-step n s d b bs t oh es P h y =
+      → b .literal ≡ false → Placed R (b .base + segments G (len b) * G) bs → Shown W G f (segmentOf G (b ∷ bs)) s (suc n)
+      → size ≤ (s + suc n) * G → heapWalk W G size f (suc n) s 0 d ≡ got [] (b ∷ bs)
+  header-step n s d b bs t oh es nl P h y =
       let sh : Shows W G f s (header (len b)) =
       subst (Shows W G f s) (ap (segmentOf G (b ∷ bs)) es ∙ first-header g size b bs t) (shown-first W G f (segmentOf G (b ∷ bs)) s n h) in
       let eb : suc s * G ≡ b .base = omega (arith, ap (λ (x : ℕ). x * G) es) in
@@ -74,6 +74,7 @@ module _ {W G size : ℕ} (z : Sizes W G size) (f : ℕ → ℕ) where
         shows-matches W G size f s (header (len b)) sh,
         oh (suc s) 0 0 b bs t (omega arith) (sym (zero-mul G)) (t .some) P (shown-later W G f (segmentOf G (b ∷ bs)) s n h) (omega arith),
         eb,
+        nl,
       )
 
   idle-step : (n : ℕ) → Idle n → Open n → Idle (suc n)
@@ -86,11 +87,11 @@ module _ {W G size : ℕ} (z : Sizes W G size) (f : ℕ → ℕ) where
           at-or-before : Test (ltb s (t .head)) → heapWalk W G size f (suc n) s 0 d ≡ got [] (b ∷ bs)
           at-or-before (is-true e) =
               free-step n s d (b ∷ bs) ih
-              (record { some = P .some; fits = P .fits; aligned = P .aligned; room = omega (arith, t .start, mul-le-mul-right G (ltb-true s (t .head) e)); later = P .later })
+              (record { some = P .some; fits = P .fits; aligned = P .aligned; proper = P .proper; room = omega (arith, t .start, mul-le-mul-right G (ltb-true s (t .head) e)); later = P .later })
               h y
           at-or-before (is-false e) =
               let u : s ≤ t .head = le-of-mul-le-mul-right {m = s} {n = t .head} {k = G} (omega (arith, t .start, P .room)) g in
-              header-step n s d b bs t oh (omega (arith, ltb-false s (t .head) e)) (P .later) h y
+              header-step n s d b bs t oh (omega (arith, ltb-false s (t .head) e)) (heap-plain G 0 size b (P .proper)) (P .later) h y
 
   -- ---- one segment more, where a block goes on
 

@@ -114,7 +114,7 @@ module _ (W G size : ℕ) (f : ℕ → ℕ) (n s : ℕ) where
   pub walk-idle : (d : ℕ) → heapWalk W G size f (suc n) s 0 d
       ≡ (let H = word f (s * G + W) W in
       cond (matches W G size f s free) (heapWalk W G size f n (suc s) 0 0)
-      (cond (leb 1 H && leb (suc s * G + H) size && matches W G size f s (header H)) (begins (suc s * G) (heapWalk W G size f n (suc s) H 0)) bad))
+      (cond (leb 1 H && leb (suc s * G + H) size && matches W G size f s (header H)) (begins (suc s * G) false (heapWalk W G size f n (suc s) H 0)) bad))
   unfolding heapWalk
   walk-idle d = refl
 

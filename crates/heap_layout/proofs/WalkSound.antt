@@ -1,6 +1,6 @@
 -- A shadow that the walk accepts is the image of the blocks that it gives. Assumes nothing.
 use mathlib.Core.Path.{_≡_, refl, sym, ap, _∙_, subst}
-use mathlib.Core.Bool.{Bool, cond, _&&_}
+use mathlib.Core.Bool.{Bool, false, cond, _&&_}
 use mathlib.Core.List.{List, [], _∷_, _++_, append-nil}
 use Prim.Native.Nat.{ℕ, zero, suc, _+_, _*_, _-_, _/_, _%_, _≤_, _<_, min}
 use native.Mathlib.Omega.{arith}
@@ -10,7 +10,7 @@ use lib.Seq.{take-at, drop-at, take-all, drop-drop}
 use lib.Dec.{leb}
 use borrow.Author.Tests.{ne-eqb, leb-true, leb-false}
 use Rattle.number.specs.Little.{word}
-use Rattle.number.proofs.TestLaws.{Test, is-true, is-false, test, and-true}
+use Rattle.number.proofs.TestLaws.{Test, is-true, is-false, test, and-true, not-both}
 use Rattle.plain.specs.Block.{Block, len}
 use Rattle.plain.specs.Rules.{Rules, Placed, Sound}
 use Rattle.plain.specs.Areas.{segments, heapRules}
@@ -28,8 +28,8 @@ use Rattle.heap_layout.proofs.WalkLaws.{matches-shows, length-marks, Sh
 bad-got : (ms : List Bool) (bs : List Block) → bad ≡ got ms bs → ⊥
 bad-got ms bs e = let z : _≡_ {A = ℕ} 0 1 = cc in omega arith
 
-begins-got : (base : ℕ) (x : Found) (ms : List Bool) (bs : List Block) → begins base x ≡ got ms bs
-    → (m : List Bool) × (cs : List Block) × (x ≡ got m cs) × (ms ≡ []) × (bs ≡ record { base = base; marks = m } ∷ cs)
+begins-got : (base : ℕ) (x : Found) (ms : List Bool) (bs : List Block) → begins base false x ≡ got ms bs
+    → (m : List Bool) × (cs : List Block) × (x ≡ got m cs) × (ms ≡ []) × (bs ≡ record { base = base; marks = m; literal = false } ∷ cs)
 begins-got base bad ms bs e = absurd (bad-got ms bs e)
 begins-got base (got m cs) ms bs e = (m, cs, refl, (cc), (cc))
 
@@ -76,9 +76,9 @@ module _ (W : ℕ) {G : ℕ} (g : 0 < G) (size : ℕ) (f : ℕ → ℕ) where
       }
 
   header-step : (n s H : ℕ) (m : List Bool) (cs : List Block) → 1 ≤ H → suc s * G + H ≤ size → Shows W G f s (header H)
-      → Opened W G size f n (suc s) s 0 H m cs → Idled W G size f (suc n) s [] (record { base = suc s * G; marks = m } ∷ cs)
+      → Opened W G size f n (suc s) s 0 H m cs → Idled W G size f (suc n) s [] (record { base = suc s * G; marks = m; literal = false } ∷ cs)
   header-step n s H m cs h1 h2 sh r =
-      let b : Block = record { base = suc s * G; marks = m } in
+      let b : Block = record { base = suc s * G; marks = m; literal = false } in
       let l : length m ≡ H = omega arith in
       let t : Stands G size (b .base) (len b) = record { head = s; start = refl; some = omega arith; fits = omega arith } in
       let q = stands-rules g size (b .base) (len b) t in
@@ -89,6 +89,7 @@ module _ (W : ℕ) {G : ℕ} (g : 0 < G) (size : ℕ) (f : ℕ → ℕ) where
               some = t .some;
               fits = q .0;
               aligned = q .1;
+              proper = λ x. absurd (not-both false x refl);
               room = omega arith;
               later = weaken R cs ((suc s + segments G H) * G) (suc s * G + segments G (length m) * G)
                   (omega (arith, ap (λ (x : ℕ). segments G x * G) l)) (r .placed);
@@ -105,7 +106,7 @@ module _ (W : ℕ) {G : ℕ} (g : 0 < G) (size : ℕ) (f : ℕ → ℕ) where
 
       go : Test (matches W G size f s free) → Test (leb 1 H && leb (suc s * G + H) size && matches W G size f s (header H))
           → cond (matches W G size f s free) (heapWalk W G size f n (suc s) 0 0)
-          (cond (leb 1 H && leb (suc s * G + H) size && matches W G size f s (header H)) (begins (suc s * G) (heapWalk W G size f n (suc s) H 0)) bad) ≡ got ms bs
+          (cond (leb 1 H && leb (suc s * G + H) size && matches W G size f s (header H)) (begins (suc s * G) false (heapWalk W G size f n (suc s) H 0)) bad) ≡ got ms bs
           → Idled W G size f (suc n) s ms bs
       go (is-true m) c q = free-step n s ms bs (matches-shows W G size f s free m) (ih (suc s) 0 ms bs (rw m at q))
       go (is-false m) (is-true c) q =

@@ -1,5 +1,5 @@
 -- The reading of a position of a heap shadow, for all bytes. Assumes nothing.
-use mathlib.Core.Bool.{cond, not}
+use mathlib.Core.Bool.{false, cond, not}
 use mathlib.Core.List.{List, [], _∷_, _++_}
 use Prim.Native.Nat.{ℕ, _+_, _*_, _-_, _/_, _%_}
 use lib.Dec.{leb, ltb, eqb}
@@ -34,7 +34,7 @@ module _ (W G : ℕ) where
       (cond (ltb size (base + L)) damaged
       (cond (leb L d) damaged
       (cond (leb L o) nothing
-      (block base L o (writtenBit f p))))))))
+      (block base L o (writtenBit f p) false)))))))
 
   -- no shadow byte but these matters to the reading of position p: the segment's number, the length in the header that it tells, the byte of
   -- written bits

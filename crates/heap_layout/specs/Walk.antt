@@ -1,5 +1,5 @@
 -- The audit's walk over the segments of a heap shadow: the blocks of which it is the image, or bad. Assumes nothing.
-use mathlib.Core.Bool.{Bool, true, cond, _&&_}
+use mathlib.Core.Bool.{Bool, true, false, cond, _&&_}
 use mathlib.Core.List.{List, []}
 use Prim.Native.Nat.{ℕ, zero, suc, _+_, _*_, _-_, min}
 use lib.Dec.{leb, eqb}
@@ -32,6 +32,6 @@ module _ (W G size : ℕ) (f : ℕ → ℕ) where
       cond (eqb L 0)
       -- no block goes on: the segment is free, or the header of a block that fits
       (cond (matches s free) (heapWalk n (suc s) 0 0)
-      (cond (leb 1 H && leb (suc s * G + H) size && matches s (header H)) (begins (suc s * G) (heapWalk n (suc s) H 0)) bad))
+      (cond (leb 1 H && leb (suc s * G + H) size && matches s (header H)) (begins (suc s * G) false (heapWalk n (suc s) H 0)) bad))
       -- a block goes on: the segment is its next one
       (cond (matches s (segment d ms)) (goesOn ms (heapWalk n (suc s) (cond (leb L (d + G)) 0 L) (d + G))) bad)

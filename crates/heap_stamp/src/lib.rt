@@ -1,11 +1,12 @@
 // A heap block as it begins, stamped into its place: header and segments, at segments of 8 bytes and numbers of 4.
 use map::Position;
+use plain::Beginning;
 ghost use mathlib.Core.Path.{_≡_};
 ghost use Prim.Native.Nat.{_+_, _-_, _%_, _≤_};
 ghost use lib.ListN.{length, replicate};
 ghost use Rattle.number.specs.Bits.{ofBits};
 ghost use Rattle.number.specs.Parts.{over};
-ghost use Rattle.plain.specs.Block.{begun};
+ghost use Rattle.plain.specs.Block.{startsWritten, begun};
 ghost use Rattle.heap_layout.specs.Ops.{heapStamp};
 ghost use Rattle.heap_laws.specs.Pair.{pairByte};
 
@@ -20,26 +21,27 @@ fn put_segment(heap: &mut [u8], p: Position, low: u32, high: u32)
 }
 
 // The written bits of a segment of which the block has n bytes, as the block begins. None is set past its end.
-fn first_bits(written: bool, n: u32) -> u32
+fn first_bits(how: Beginning, n: u32) -> u32
     requires { ⌜ n ≤ 8 ⌝ }
-    ensures { λ r. ⌜ r ≡ ofBits (replicate n written) ⌝ }
+    ensures { λ r. ⌜ r ≡ ofBits (replicate n (startsWritten how)) ⌝ }
 {
-    if written {
-        return number_bits::low_bits(n);
+    match how {
+        Beginning::Unwritten => 0,
+        Beginning::Written => number_bits::low_bits(n),
+        Beginning::Literal => number_bits::low_bits(n),
     }
-    0
 }
 
 // The header of a block, and for each of its segments the number and the written bits of the block's bytes in it, all set or none.
-pub fn stamp(heap: &mut [u8], base: Position, len: u32, written: bool)
+pub fn stamp(heap: &mut [u8], base: Position, len: u32, how: Beginning)
     requires { ⌜ (8 ≤ base .0) × (base .0 % 8 ≡ 0) × (base .0 + len ≤ length (now heap)) ⌝ }
     requires { ⌜ (1 ≤ len) × (length (now heap) % 8 ≡ 0) × (length (now heap) ≤ 131072) ⌝ }
-    ensures { λ _. ⌜ now (heap .exit) ≡ heapStamp 4 8 (now (heap .entry)) (begun written (base .0) len) ⌝ }
+    ensures { λ _. ⌜ now (heap .exit) ≡ heapStamp 4 8 (now (heap .entry)) (begun how (base .0) len) ⌝ }
 {
     let Position(b) = base;
     let header = b - 8;
     put_segment(heap, Position(header), 0, len);
-    let whole = first_bits(written, 8);
+    let whole = first_bits(how, 8);
     let mut d: u32 = 0;
     while d + 8 <= len {
         let segment = b + (d as usize);
@@ -48,6 +50,6 @@ pub fn stamp(heap: &mut [u8], base: Position, len: u32, written: bool)
     }
     if d < len {
         let last = b + (d as usize);
-        put_segment(heap, Position(last), d + 1, first_bits(written, len - d));
+        put_segment(heap, Position(last), d + 1, first_bits(how, len - d));
     }
 }

@@ -13,8 +13,7 @@ pub use monitor_clear::clear;
 pub use monitor_free::free;
 pub use monitor_initialised::initialised;
 pub use monitor_next::next;
-pub use monitor_record::record;
-pub use monitor_record::record_written;
+pub use monitor_record::begin;
 pub use monitor_valid::valid;
 pub use monitor_written::written;
 

@@ -26,7 +26,7 @@ fn origin(map: Map, l: Located) -> Address
     }
 }
 
-// What ask answers to a reading in the area that begins at start.
+// What ask answers to a reading in the area that begins at start: of its two bits, the one for written.
 fn told(r: Reading, start: Address) -> Answer
     requires { ⌜ baseBelow r (4294967296 - start .0) ⌝ }
     ensures { λ x. ⌜ answerOf x ≡ askReading (readingUp (start .0) (readingOf r)) ⌝ }
@@ -34,13 +34,13 @@ fn told(r: Reading, start: Address) -> Answer
     match r {
         Reading::Nothing => guard::refusal(7),
         Reading::Damaged => guard::refusal(8),
-        Reading::Block(base, length, offset, written) => {
+        Reading::Block(base, length, offset, bits) => {
             Answer {
                 number: 0,
                 first: map::to_address(base, start).0,
                 second: length,
                 third: offset,
-                fourth: written as u32,
+                fourth: (bits as u32) & 1,
             }
         }
     }

@@ -16,7 +16,7 @@ use Rattle.plain.specs.Areas.{mapRules}
 use Rattle.plain.specs.Reading.{Reading, nothing, block, damaged}
 use Rattle.plain.specs.Lift.{readingUp}
 use Rattle.plain.specs.Ops.{readAny}
-use Rattle.plain.specs.ShadowCalls.{inOne}
+use Rattle.plain.specs.ShadowCalls.{inOne, isLiteral}
 use Rattle.heap_layout.specs.Reading.{heapReading}
 use Rattle.heap_layout.proofs.ReadingLaws as heap
 use Rattle.stack_layout.specs.Reading.{stackReading}
@@ -136,17 +136,27 @@ read-out m s a e = let i = out-inside m a e in (rw i refl, i)
 pub null-inside : (m : Map) → goodMap m ≡ true → mapRules m .inside 0 ≡ false
 null-inside m ok = out-inside m 0 (zero-outside m ok)
 
+-- ---- no literal lies in the heap
+
+pub heap-literal : (size : ℕ) (f : ℕ → ℕ) (p : ℕ) → isLiteral (heapReading 4 8 size f p) ≡ false
+heap-literal size f p = go (heapReading 4 8 size f p) refl
+  where
+    go : (r : Reading) → heapReading 4 8 size f p ≡ r → isLiteral r ≡ false
+    go nothing e = refl
+    go damaged e = refl
+    go (block b l o w k) e = heap.reading-told 4 8 size f p b l o w k e .mark
+
 -- ---- n bytes that lie in one block lie in its area
 
-in-one : (n : ℕ) (r : Reading) (P : Type 0) → ((b l o w : ℕ) → r ≡ block b l o w → o + n ≤ l → P) → inOne n r ≡ true → P
+in-one : (n : ℕ) (r : Reading) (P : Type 0) → ((b l o w : ℕ) (k : Bool) → r ≡ block b l o w k → o + n ≤ l → P) → inOne n r ≡ true → P
 in-one n nothing P f i = absurd (false≢true i)
 in-one n damaged P f i = absurd (false≢true i)
-in-one n (block b l o w) P f i = f b l o w refl (leb-true (o + n) l i)
+in-one n (block b l o w k) P f i = f b l o w k refl (leb-true (o + n) l i)
 
 pub heap-room : (size : ℕ) (f : ℕ → ℕ) (p n : ℕ) → inOne n (heapReading 4 8 size f p) ≡ true → p + n ≤ size
 heap-room size f p n =
-    in-one n (heapReading 4 8 size f p) (p + n ≤ size) (λ b l o w e h. let t = heap.reading-told 4 8 size f p b l o w e in omega arith)
+    in-one n (heapReading 4 8 size f p) (p + n ≤ size) (λ b l o w k e h. let t = heap.reading-told 4 8 size f p b l o w k e in omega arith)
 
 pub stack-room : (size : ℕ) (f g : ℕ → ℕ) (p n : ℕ) → inOne n (stackReading size f g p) ≡ true → p + n ≤ size
 stack-room size f g p n =
-    in-one n (stackReading size f g p) (p + n ≤ size) (λ b l o w e h. let t = stack.reading-told size f g p b l o w e in omega arith)
+    in-one n (stackReading size f g p) (p + n ≤ size) (λ b l o w k e h. let t = stack.reading-told size f g p b l o w k e in omega arith)

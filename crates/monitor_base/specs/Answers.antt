@@ -10,7 +10,7 @@ use Rattle.monitor_base.specs.declared.Call.the-variants as case
 use Rattle.monitor_base.specs.declared.Query.{Query}
 use Rattle.monitor_base.specs.declared.Query.the-variants.{Ask, Valid, Initialised, Next, Audit}
 use Rattle.monitor_base.specs.declared.Update.{Update}
-use Rattle.monitor_base.specs.declared.Update.the-variants.{Clear, Record, RecordWritten, Free, Written}
+use Rattle.monitor_base.specs.declared.Update.the-variants.{Clear, Begin, Free, Written}
 
 -- the number and the four fields
 abbrev pub answerOf : Answer → plain.Answer
@@ -22,15 +22,14 @@ outcome r h p s = ((h, (p, s)), answerOf r)
 
 abbrev pub queryOf : Query → plain.Call
 queryOf (Ask a) = plain.ask (a .0)
-queryOf (Valid a n from) = plain.valid (a .0) n (from .0)
+queryOf (Valid w a n from) = plain.valid w (a .0) n (from .0)
 queryOf (Initialised a n) = plain.initialised (a .0) n
 queryOf (Next a) = plain.next (a .0)
 queryOf Audit = plain.audit
 
 abbrev pub updateOf : Update → plain.Call
 updateOf Clear = plain.clear
-updateOf (Record base length) = plain.record-block (base .0) length
-updateOf (RecordWritten base length) = plain.record-written (base .0) length
+updateOf (Begin how base length) = plain.begin how (base .0) length
 updateOf (Free base) = plain.free (base .0)
 updateOf (Written a n) = plain.written (a .0) n
 

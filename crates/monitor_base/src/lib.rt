@@ -4,6 +4,7 @@ pub mod locating;
 
 use map::Address;
 use map::Position;
+use plain::Beginning;
 
 // The number, 0 for accepted, and the answer fields in their order, zero where unused.
 pub struct Answer {
@@ -17,7 +18,8 @@ pub struct Answer {
 // The calls that only read.
 pub enum Query {
     Ask(Address),
-    Valid(Address, u32, Address),
+    // May n bytes from the first address on be read, in the block of the second; where the flag is set, may they be written as well.
+    Valid(bool, Address, u32, Address),
     Initialised(Address, u32),
     Next(Address),
     Audit,
@@ -26,8 +28,7 @@ pub enum Query {
 // The calls that write.
 pub enum Update {
     Clear,
-    Record(Address, u32),
-    RecordWritten(Address, u32),
+    Begin(Beginning, Address, u32),
     Free(Address),
     Written(Address, u32),
 }

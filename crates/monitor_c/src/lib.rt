@@ -3,8 +3,9 @@
 ghost use mathlib.Core.Path.{_≡_};
 ghost use Rattle.plain.specs.Call as plain;
 ghost use Rattle.monitor_base.specs.Calls.{call};
-ghost use Rattle.monitor_c_lent.specs.Lent.{mapOf, left};
+ghost use Rattle.monitor_c_lent.specs.Lent.{mapOf, beginningOf, left};
 use map::Address;
+use monitor_c_lent::beginning;
 use monitor_c_lent::map_of;
 use monitor_c_lent::told;
 
@@ -25,40 +26,31 @@ pub extern "C" fn block_monitor_clear(
     )
 }
 
+// Every way to record, told how the block begins: one function that is exported costs less than three that share one.
 #[no_mangle]
-pub extern "C" fn block_monitor_record(
+pub extern "C" fn block_monitor_begin(
     map: &[u32; 4],
     heap: &mut [u8],
     primary: &mut [u8],
     secondary: &mut [u8],
     base: u32,
     length: u32,
+    how: u8,
     fields: &mut [u32; 4],
 ) -> u32
     ensures { λ k. ⌜ left k (now (fields .exit)) (now (heap .exit)) (now (primary .exit)) (now (secondary .exit))
-        ≡ call (mapOf (now (map .entry))) (plain.record-block base length) (now (heap .entry), (now (primary .entry), now (secondary .entry))) ⌝ }
+        ≡ call (mapOf (now (map .entry))) (plain.begin (beginningOf how) base length) (now (heap .entry), (now (primary .entry), now (secondary .entry))) ⌝ }
 {
     told(
-        monitor::record(map_of(map), heap, primary, secondary, Address(base), length),
-        fields,
-    )
-}
-
-#[no_mangle]
-pub extern "C" fn block_monitor_record_written(
-    map: &[u32; 4],
-    heap: &mut [u8],
-    primary: &mut [u8],
-    secondary: &mut [u8],
-    base: u32,
-    length: u32,
-    fields: &mut [u32; 4],
-) -> u32
-    ensures { λ k. ⌜ left k (now (fields .exit)) (now (heap .exit)) (now (primary .exit)) (now (secondary .exit))
-        ≡ call (mapOf (now (map .entry))) (plain.record-written base length) (now (heap .entry), (now (primary .entry), now (secondary .entry))) ⌝ }
-{
-    told(
-        monitor::record_written(map_of(map), heap, primary, secondary, Address(base), length),
+        monitor::begin(
+            map_of(map),
+            heap,
+            primary,
+            secondary,
+            Address(base),
+            length,
+            beginning(how),
+        ),
         fields,
     )
 }
@@ -118,8 +110,9 @@ pub extern "C" fn block_monitor_ask(
     )
 }
 
+// Valid, where the bytes are to be written, and valid_read: one function, for the same reason.
 #[no_mangle]
-pub extern "C" fn block_monitor_valid(
+pub extern "C" fn block_monitor_access(
     map: &[u32; 4],
     heap: &[u8],
     primary: &[u8],
@@ -127,13 +120,14 @@ pub extern "C" fn block_monitor_valid(
     address: u32,
     n: u32,
     from: u32,
+    write: bool,
     fields: &mut [u32; 4],
 ) -> u32
     ensures { λ k. ⌜ left k (now (fields .exit)) (now (heap .entry)) (now (primary .entry)) (now (secondary .entry))
-        ≡ call (mapOf (now (map .entry))) (plain.valid address n from) (now (heap .entry), (now (primary .entry), now (secondary .entry))) ⌝ }
+        ≡ call (mapOf (now (map .entry))) (plain.valid write address n from) (now (heap .entry), (now (primary .entry), now (secondary .entry))) ⌝ }
 {
     told(
-        monitor_c_lent::valid(map, heap, primary, secondary, address, n, from),
+        monitor_c_lent::valid(map, heap, primary, secondary, address, n, from, write),
         fields,
     )
 }

@@ -5,10 +5,11 @@ ghost use lib.ListN.{length};
 ghost use Rattle.plain.specs.Call as plain;
 ghost use Rattle.monitor_base.specs.Answers.{answerOf, outcome};
 ghost use Rattle.monitor_base.specs.Calls.{call};
-ghost use Rattle.monitor_c_lent.specs.Lent.{mapOf, answered};
+ghost use Rattle.monitor_c_lent.specs.Lent.{mapOf, beginningOf, answered};
 use map::Address;
 use map::Map;
 use monitor_base::Answer;
+use plain::Beginning;
 
 pub fn map_of(map: &[u32; 4]) -> Map
     ensures { λ r. ⌜ r ≡ mapOf (now (map .entry)) ⌝ }
@@ -33,7 +34,20 @@ pub fn told(r: Answer, fields: &mut [u32]) -> u32
     r.number
 }
 
-// Whether n bytes from an address on lie in the block of another.
+// 0 for no byte written, 1 for every byte, any other number for a literal.
+pub fn beginning(how: u8) -> Beginning
+    ensures { λ r. ⌜ r ≡ beginningOf how ⌝ }
+{
+    if 1 < how {
+        return Beginning::Literal;
+    }
+    if how == 1 {
+        return Beginning::Written;
+    }
+    Beginning::Unwritten
+}
+
+// Whether n bytes from an address on lie in the block of another, and may be written where that is asked.
 pub fn valid(
     map: &[u32; 4],
     heap: &[u8],
@@ -42,9 +56,10 @@ pub fn valid(
     address: u32,
     n: u32,
     from: u32,
+    write: bool,
 ) -> Answer
     ensures { λ r. ⌜ outcome r (now (heap .entry)) (now (primary .entry)) (now (secondary .entry))
-        ≡ call (mapOf (now (map .entry))) (plain.valid address n from) (now (heap .entry), (now (primary .entry), now (secondary .entry))) ⌝ }
+        ≡ call (mapOf (now (map .entry))) (plain.valid write address n from) (now (heap .entry), (now (primary .entry), now (secondary .entry))) ⌝ }
 {
     monitor_valid::valid(
         map_of(map),
@@ -54,5 +69,6 @@ pub fn valid(
         Address(address),
         n,
         Address(from),
+        write,
     )
 }

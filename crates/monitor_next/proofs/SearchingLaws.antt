@@ -18,7 +18,7 @@ use Rattle.monitor_next.specs.declared.Search.{Search}
 module _ (m : Map) (s : Shadows) (ok : goodMap m ≡ true) (fit : lengthsFit m s ≡ true) where
   by : (r : Reading) → unless (firstOf ((8, isDamaged r) ∷ (7, not (isBlock r)) ∷ [])) s (s, nextAnswer r) ≡ (s, searchAnswer (searchOf r))
   by nothing = refl
-  by (block b l o w) = refl
+  by (block b l o w t) = refl
   by damaged = refl
 
   pub next-search : (a : ℕ) (r : Search) → r ≡ searchOf (search (mapRules m) (shadowOps m) s a) → call m (next a) s ≡ (s, searchAnswer r)

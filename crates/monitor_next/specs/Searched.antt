@@ -8,7 +8,7 @@ use Rattle.monitor_next.specs.declared.Search.the-variants.{Found, None,
 -- what the definition's climb over addresses ends with
 abbrev pub searchOf : Reading → Search
 searchOf nothing = None
-searchOf (block base length offset written) = Found (record { 0 = base }) length
+searchOf (block base length offset written literal) = Found (record { 0 = base }) length
 searchOf damaged = Damaged
 
 abbrev pub searchAnswer : Search → plain.Answer

@@ -17,7 +17,7 @@ pub fn query_step(query: Query, map: Map, heap: &[u8], primary: &[u8], secondary
 {
     match query {
         Query::Ask(a) => ask(map, heap, primary, secondary, a),
-        Query::Valid(a, n, from) => valid(map, heap, primary, secondary, a, n, from),
+        Query::Valid(write, a, n, from) => valid(map, heap, primary, secondary, a, n, from, write),
         Query::Initialised(a, n) => initialised(map, heap, primary, secondary, a, n),
         Query::Next(a) => next(map, heap, primary, secondary, a),
         Query::Audit => audit(map, heap, primary, secondary),

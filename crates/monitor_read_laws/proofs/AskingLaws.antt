@@ -3,11 +3,12 @@ use mathlib.Core.Path.{_≡_, refl, sym, _∙_}
 use mathlib.Core.Bool.{true}
 use mathlib.Core.List.{List, [], _∷_}
 use mathlib.Core.Logic.{⊎-elim}
-use Prim.Native.Nat.{ℕ, _-_}
+use Prim.Native.Nat.{ℕ, _-_, _/_, _%_}
 use native.Mathlib.Omega.{arith}
 use types.Run.{OneOf}
 use denote.Enum.Declared.{tagOf}
 use lib.ListN.{length}
+use lib.Dec.{eqb}
 use Rattle.number.specs.Parts.{at}
 use Rattle.map.specs.declared.Map.{Map}
 use Rattle.map.specs.declared.Area.the-variants as area
@@ -49,7 +50,7 @@ module _ (m : Map) (s : Shadows) (ok : goodMap m ≡ true) (fit : lengthsFit m s
       → shadowStep (mapRules m) (shadowOps m) (ask a) s ≡ (s, askReading r)
   unfolding shadowStep
   ask-inside a nothing (e, i) = rw (i, e)
-  ask-inside a (block b l o w) (e, i) = rw (i, e)
+  ask-inside a (block b l o w t) (e, i) = rw (i, e)
   ask-inside a damaged (e, i) = rw (i, e)
 
   abbrev read : Located → Reading
@@ -78,10 +79,10 @@ module _ (m : Map) (s : Shadows) (ok : goodMap m ≡ true) (fit : lengthsFit m s
   pub base-at : (l : Located) (r : code.Reading) → readingOf r ≡ read l → (x : ℕ) → x ≡ originOf m l → baseBelow r (4294967296 - x)
   base-at l case.Nothing e x ex = tt
   base-at l case.Damaged e x ex = tt
-  base-at (Heap q) (case.Block b l o w) e x ex =
-      let t = heap.reading-told 4 8 (length (s .0)) (at (s .0)) (q .0) (b .0) l o w (sym e) in
+  base-at (Heap q) (case.Block b l o n) e x ex =
+      let t = heap.reading-told 4 8 (length (s .0)) (at (s .0)) (q .0) (b .0) l o (n % 2) (eqb (n / 2 % 2) 1) (sym e) in
       omega (arith, t .fits, heap-lengths m s ok fit .0, ends m s ok fit .0)
-  base-at (Stack q) (case.Block b l o w) e x ex =
-      let t = stack.reading-told (length (s .1 .0)) (at (s .1 .0)) (at (s .1 .1)) (q .0) (b .0) l o w (sym e) in
+  base-at (Stack q) (case.Block b l o n) e x ex =
+      let t = stack.reading-told (length (s .1 .0)) (at (s .1 .0)) (at (s .1 .1)) (q .0) (b .0) l o (n % 2) (eqb (n / 2 % 2) 1) (sym e) in
       omega (arith, t .fits, stack-lengths m s ok fit .0, ends m s ok fit .1)
-  base-at Outside (case.Block b l o w) e x ex = absurd (let z : _≡_ {A = ℕ} 0 1 = cc in omega arith)
+  base-at Outside (case.Block b l o n) e x ex = absurd (let z : _≡_ {A = ℕ} 0 1 = cc in omega arith)

@@ -28,32 +28,32 @@ not-damaged e = let z : _≡_ {A = ℕ} 0 1 = cc in omega arith
 -- the climb goes on above such a reading
 abbrev pub Goes : Reading → Type 0
 Goes nothing = Unit {0}
-Goes (block b l zero w) = ⊥
-Goes (block b l (suc o) w) = Unit {0}
+Goes (block b l zero w t) = ⊥
+Goes (block b l (suc o) w t) = Unit {0}
 Goes damaged = ⊥
 
 pub goes : (r : Reading) → isDamaged r ≡ false → isFirst r ≡ false → Goes r
 goes nothing d f = tt
-goes (block b l zero w) d f = true≢false f
-goes (block b l (suc o) w) d f = tt
+goes (block b l zero w t) d f = true≢false f
+goes (block b l (suc o) w t) d f = tt
 goes damaged d f = true≢false d
 
 goes-on : (r y : Reading) → Goes r → stop r y ≡ y
 goes-on nothing y g = refl
-goes-on (block b l zero w) y g = absurd g
-goes-on (block b l (suc o) w) y g = refl
+goes-on (block b l zero w t) y g = absurd g
+goes-on (block b l (suc o) w t) y g = refl
 goes-on damaged y g = absurd g
 
 pub goes-up : (s : ℕ) (r : Reading) → Goes r → Goes (readingUp s r)
 goes-up s nothing g = tt
-goes-up s (block b l zero w) g = g
-goes-up s (block b l (suc o) w) g = tt
+goes-up s (block b l zero w t) g = g
+goes-up s (block b l (suc o) w t) g = tt
 goes-up s damaged g = g
 
 pub goes-down : (s : ℕ) (r : Reading) → Goes (readingUp s r) → Goes r
 goes-down s nothing g = tt
-goes-down s (block b l zero w) g = g
-goes-down s (block b l (suc o) w) g = tt
+goes-down s (block b l zero w t) g = g
+goes-down s (block b l (suc o) w t) g = tt
 goes-down s damaged g = g
 
 pub goes-same : (r q : Reading) → r ≡ q → Goes q → Goes r
@@ -74,8 +74,8 @@ module _ (rd : ℕ → Reading) (end : ℕ) where
       over (b - a) a (omega arith) (λ x p q. f x p (omega arith)) ∙ ap (from rd end) e
 
   -- where the climb ends
-  pub climb-first : (a b l o w : ℕ) → a < end → rd a ≡ block b l o w → o ≡ 0 → from rd end a ≡ block b l 0 w
-  climb-first a b l o w h e z = climb-step rd end a h ∙ ap (λ r. stop r (from rd end (a + 1))) e ∙ rw z
+  pub climb-first : (a b l o w : ℕ) (t : Bool) → a < end → rd a ≡ block b l o w t → o ≡ 0 → from rd end a ≡ block b l 0 w t
+  climb-first a b l o w t h e z = climb-step rd end a h ∙ ap (λ r. stop r (from rd end (a + 1))) e ∙ rw z
 
   pub climb-damaged : (a : ℕ) → a < end → rd a ≡ damaged → from rd end a ≡ damaged
   climb-damaged a h e = climb-step rd end a h ∙ ap (λ r. stop r (from rd end (a + 1))) e
@@ -112,7 +112,7 @@ module _ (size : ℕ) (f : ℕ → ℕ) where
   below s p w =
       let base = s - (word f s 4 - 1) in
       let L = word f (base - 8 + 4) 4 in
-      cond (leb L (p - base)) nothing (block base L (p - base) w)
+      cond (leb L (p - base)) nothing (block base L (p - base) w false)
 
   by-tests : (p : ℕ) → H p ≡ tests (p / 8 * 8) (below (p / 8 * 8) p (writtenBit 4 8 f p))
   unfolding heapReading cascade
@@ -121,7 +121,7 @@ module _ (size : ℕ) (f : ℕ → ℕ) where
   below-whole : (s p w : ℕ) → below s p w ≡ damaged → ⊥
   below-whole s p w e = go (leb (word f (s - (word f s 4 - 1) - 8 + 4) 4) (p - (s - (word f s 4 - 1)))) _ _ _ _ e
     where
-      go : (t : Bool) (b l o w : ℕ) → cond t nothing (block b l o w) ≡ damaged → ⊥
+      go : (t : Bool) (b l o w : ℕ) → cond t nothing (block b l o w false) ≡ damaged → ⊥
       go true b l o w e = not-damaged e
       go false b l o w e = let z : _≡_ {A = ℕ} 0 1 = cc in omega arith
 
@@ -141,12 +141,12 @@ module _ (size : ℕ) (f : ℕ → ℕ) where
       go : (r : Reading) → H x ≡ r → Goes r
       go nothing e = tt
       go damaged e = d e
-      go (block b l zero w) e = let t = heap.reading-told 4 8 size f x b l 0 w e in let z : x ≡ b = omega (arith, t .low, t .offset) in n (rw z (t .aligned))
-      go (block b l (suc o) w) e = tt
+      go (block b l zero w t) e = let k = heap.reading-told 4 8 size f x b l 0 w t e in let z : x ≡ b = omega (arith, k .low, k .offset) in n (rw z (k .aligned))
+      go (block b l (suc o) w t) e = tt
 
   whole : (r : Reading) → Goes r → r ≡ damaged → ⊥
   whole nothing g e = not-damaged e
-  whole (block b l o w) g e = let z : _≡_ {A = ℕ} 0 1 = cc in omega arith
+  whole (block b l o w t) g e = let z : _≡_ {A = ℕ} 0 1 = cc in omega arith
   whole damaged g e = g
 
   -- where the climb goes on above the reading of position p, it does so in the rest of its segment

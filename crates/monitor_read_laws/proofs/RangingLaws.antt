@@ -28,13 +28,13 @@ use Rattle.stack_layout.proofs.ReadingLaws as stack
 use Rattle.shadows.specs.Shadows.{Shadows, lengthsFit, shadowOps}
 use Rattle.monitor_base.specs.Calls.{call}
 use Rattle.monitor_base.proofs.CallLaws.{call-step}
-use Rattle.monitor_base.proofs.LocatingLaws.{area-heap, area-stack, heap-lengths, stack-lengths, read-heap, read-stack, read-out, heap-room, stack-room}
+use Rattle.monitor_base.proofs.LocatingLaws.{area-heap, area-stack, heap-lengths, stack-lengths, read-heap, read-stack, read-out, heap-literal, heap-room, stack-room}
 use Rattle.monitor_read_laws.specs.Asked.{validAnswer, apartAnswer, initialisedAnswer}
-use Rattle.monitor_read_laws.proofs.JudgingLaws.{up-damaged, up-one, valid-up, valid-apart}
+use Rattle.monitor_read_laws.proofs.JudgingLaws.{up-damaged, up-one, valid-up, valid-any, valid-apart}
 
 same-none : (r : Reading) → sameBlock r nothing ≡ false
 same-none nothing = refl
-same-none (block b l o w) = refl
+same-none (block b l o w t) = refl
 same-none damaged = refl
 
 module _ (m : Map) (s : Shadows) (ok : goodMap m ≡ true) (fit : lengthsFit m s ≡ true) where
@@ -60,10 +60,10 @@ module _ (m : Map) (s : Shadows) (ok : goodMap m ≡ true) (fit : lengthsFit m s
   -- ---- valid
 
   -- a block of the heap begins in the heap, one of the stack in the stack
-  bases : (p q b l o w c k i v : ℕ) → H p ≡ block b l o w → K q ≡ block c k i v → hs + b ≢ ss + c
-  bases p q b l o w c k i v e f h =
-      let t = heap.reading-told 4 8 (length (s .0)) (at (s .0)) p b l o w e in
-      let u = stack.reading-told (length (s .1 .0)) (at (s .1 .0)) (at (s .1 .1)) q c k i v f in
+  bases : (p q b l o w c k i v : ℕ) (t u : Bool) → H p ≡ block b l o w t → K q ≡ block c k i v u → hs + b ≢ ss + c
+  bases p q b l o w c k i v t u e f h =
+      let d = heap.reading-told 4 8 (length (s .0)) (at (s .0)) p b l o w t e in
+      let g = stack.reading-told (length (s .1 .0)) (at (s .1 .0)) (at (s .1 .1)) q c k i v u f in
       let x = heap-lengths m s ok fit .0 in
       let y = stack-lengths m s ok fit .0 in
       good .noShare (omega arith) (omega arith)
@@ -71,71 +71,73 @@ module _ (m : Map) (s : Shadows) (ok : goodMap m ≡ true) (fit : lengthsFit m s
   heap-stack : (p q : ℕ) → sameBlock (readingUp hs (H p)) (readingUp ss (K q)) ≡ false
   heap-stack p q = go (H p) refl (K q) refl
     where
-      go : (r : Reading) → H p ≡ r → (t : Reading) → K q ≡ t → sameBlock (readingUp hs r) (readingUp ss t) ≡ false
-      go nothing e t f = refl
-      go damaged e t f = refl
-      go (block b l o w) e nothing f = refl
-      go (block b l o w) e damaged f = refl
-      go (block b l o w) e (block c k i v) f = rw (ne-eqb (hs + b) (ss + c) (bases p q b l o w c k i v e f))
+      go : (r : Reading) → H p ≡ r → (j : Reading) → K q ≡ j → sameBlock (readingUp hs r) (readingUp ss j) ≡ false
+      go nothing e j f = refl
+      go damaged e j f = refl
+      go (block b l o w t) e nothing f = refl
+      go (block b l o w t) e damaged f = refl
+      go (block b l o w t) e (block c k i v u) f = rw (ne-eqb (hs + b) (ss + c) (bases p q b l o w c k i v t u e f))
 
   stack-heap : (p q : ℕ) → sameBlock (readingUp ss (K p)) (readingUp hs (H q)) ≡ false
   stack-heap p q = go (K p) refl (H q) refl
     where
-      go : (r : Reading) → K p ≡ r → (t : Reading) → H q ≡ t → sameBlock (readingUp ss r) (readingUp hs t) ≡ false
-      go nothing e t f = refl
-      go damaged e t f = refl
-      go (block b l o w) e nothing f = refl
-      go (block b l o w) e damaged f = refl
-      go (block b l o w) e (block c k i v) f = rw (ne-eqb (ss + b) (hs + c) (λ h. bases q p c k i v b l o w f e (sym h)))
+      go : (r : Reading) → K p ≡ r → (j : Reading) → H q ≡ j → sameBlock (readingUp ss r) (readingUp hs j) ≡ false
+      go nothing e j f = refl
+      go damaged e j f = refl
+      go (block b l o w t) e nothing f = refl
+      go (block b l o w t) e damaged f = refl
+      go (block b l o w t) e (block c k i v u) f = rw (ne-eqb (ss + b) (hs + c) (λ h. bases q p c k i v b l o w u t f e (sym h)))
 
-  -- r is the reading of the first byte, t that of the byte at b
-  module _ (n : ℕ) (r t : Reading) (b q : ℕ) (x : Answer) where
-    pub valid-heap-heap : (p : ℕ) → r ≡ H p → areaOf m b ≡ Heap → q ≡ b - hs → t ≡ H q → x ≡ validAnswer n r t → x ≡ validAnswer n (readingUp hs (H p)) (rd b)
-    valid-heap-heap p er e z et y = y ∙ rw (er, et, read-heap m s ok fit b q e z .0) (sym (valid-up n hs (H p) (H q)))
+  -- r is the reading of the first byte, t that of the byte at b; w says whether the bytes are to be written
+  module _ (w : Bool) (n : ℕ) (r t : Reading) (b q : ℕ) (x : Answer) where
+    pub valid-heap-heap : (p : ℕ) → r ≡ H p → areaOf m b ≡ Heap → q ≡ b - hs → t ≡ H q → x ≡ validAnswer false n r t
+        → x ≡ validAnswer w n (readingUp hs (H p)) (rd b)
+    valid-heap-heap p er e z et y =
+        y ∙ rw (er, et, read-heap m s ok fit b q e z .0) (sym (valid-up w n hs (H p) (H q) ∙ valid-any w n (H p) (H q) (heap-literal (length (s .0)) (at (s .0)) p)))
 
-    pub valid-stack-stack : (p : ℕ) → r ≡ K p → areaOf m b ≡ Stack → q ≡ b - ss → t ≡ K q → x ≡ validAnswer n r t
-        → x ≡ validAnswer n (readingUp ss (K p)) (rd b)
-    valid-stack-stack p er e z et y = y ∙ rw (er, et, read-stack m s ok fit b q e z .0) (sym (valid-up n ss (K p) (K q)))
+    pub valid-stack-stack : (p : ℕ) → r ≡ K p → areaOf m b ≡ Stack → q ≡ b - ss → t ≡ K q → x ≡ validAnswer w n r t
+        → x ≡ validAnswer w n (readingUp ss (K p)) (rd b)
+    valid-stack-stack p er e z et y = y ∙ rw (er, et, read-stack m s ok fit b q e z .0) (sym (valid-up w n ss (K p) (K q)))
 
     pub valid-heap-stack : (p : ℕ) → r ≡ H p → areaOf m b ≡ Stack → q ≡ b - ss → t ≡ K q → x ≡ apartAnswer r t
-        → x ≡ validAnswer n (readingUp hs (H p)) (rd b)
+        → x ≡ validAnswer w n (readingUp hs (H p)) (rd b)
     valid-heap-stack p er e z et y =
-        rw (read-stack m s ok fit b q e z .0) (valid-apart n (H p) (K q) _ _ (up-damaged hs (H p)) (up-damaged ss (K q)) (heap-stack p q) x (y ∙ rw (er, et)))
+        rw (read-stack m s ok fit b q e z .0) (valid-apart w n (H p) (K q) _ _ (up-damaged hs (H p)) (up-damaged ss (K q)) (heap-stack p q) x (y ∙ rw (er, et)))
 
     pub valid-stack-heap : (p : ℕ) → r ≡ K p → areaOf m b ≡ Heap → q ≡ b - hs → t ≡ H q → x ≡ apartAnswer r t
-        → x ≡ validAnswer n (readingUp ss (K p)) (rd b)
+        → x ≡ validAnswer w n (readingUp ss (K p)) (rd b)
     valid-stack-heap p er e z et y =
-        rw (read-heap m s ok fit b q e z .0) (valid-apart n (K p) (H q) _ _ (up-damaged ss (K p)) (up-damaged hs (H q)) (stack-heap p q) x (y ∙ rw (er, et)))
+        rw (read-heap m s ok fit b q e z .0) (valid-apart w n (K p) (H q) _ _ (up-damaged ss (K p)) (up-damaged hs (H q)) (stack-heap p q) x (y ∙ rw (er, et)))
 
   -- the first byte lies in neither area
-  module _ (n : ℕ) (t : Reading) (b q : ℕ) (x : Answer) where
-    pub valid-out-heap : areaOf m b ≡ Heap → q ≡ b - hs → t ≡ H q → x ≡ apartAnswer nothing t → x ≡ validAnswer n nothing (rd b)
+  module _ (w : Bool) (n : ℕ) (t : Reading) (b q : ℕ) (x : Answer) where
+    pub valid-out-heap : areaOf m b ≡ Heap → q ≡ b - hs → t ≡ H q → x ≡ apartAnswer nothing t → x ≡ validAnswer w n nothing (rd b)
     valid-out-heap e z et y =
-        rw (read-heap m s ok fit b q e z .0) (valid-apart n nothing (H q) nothing _ refl (up-damaged hs (H q)) refl x (y ∙ rw et))
+        rw (read-heap m s ok fit b q e z .0) (valid-apart w n nothing (H q) nothing _ refl (up-damaged hs (H q)) refl x (y ∙ rw et))
 
-    pub valid-out-stack : areaOf m b ≡ Stack → q ≡ b - ss → t ≡ K q → x ≡ apartAnswer nothing t → x ≡ validAnswer n nothing (rd b)
+    pub valid-out-stack : areaOf m b ≡ Stack → q ≡ b - ss → t ≡ K q → x ≡ apartAnswer nothing t → x ≡ validAnswer w n nothing (rd b)
     valid-out-stack e z et y =
-        rw (read-stack m s ok fit b q e z .0) (valid-apart n nothing (K q) nothing _ refl (up-damaged ss (K q)) refl x (y ∙ rw et))
+        rw (read-stack m s ok fit b q e z .0) (valid-apart w n nothing (K q) nothing _ refl (up-damaged ss (K q)) refl x (y ∙ rw et))
 
   -- the byte at b lies in neither area
-  pub valid-out : (n start : ℕ) (r R : Reading) (b : ℕ) (x : Answer) → r ≡ R → areaOf m b ≡ Outside → x ≡ apartAnswer r nothing
-      → x ≡ validAnswer n (readingUp start R) (rd b)
-  valid-out n start r R b x er e y =
-      rw (read-out m s b e .0) (valid-apart n R nothing _ nothing (up-damaged start R) refl (same-none (readingUp start R)) x (y ∙ rw er))
+  pub valid-out : (w : Bool) (n start : ℕ) (r R : Reading) (b : ℕ) (x : Answer) → r ≡ R → areaOf m b ≡ Outside → x ≡ apartAnswer r nothing
+      → x ≡ validAnswer w n (readingUp start R) (rd b)
+  valid-out w n start r R b x er e y =
+      rw (read-out m s b e .0) (valid-apart w n R nothing _ nothing (up-damaged start R) refl (same-none (readingUp start R)) x (y ∙ rw er))
 
-  pub valid-out-out : (n b : ℕ) (x : Answer) → areaOf m b ≡ Outside → x ≡ yesNo false → x ≡ validAnswer n nothing (rd b)
+  pub valid-out-out : (w : Bool) (n b : ℕ) (x : Answer) → areaOf m b ≡ Outside → x ≡ yesNo false → x ≡ validAnswer w n nothing (rd b)
   unfolding validAnswer
-  valid-out-out n b x e y = rw (read-out m s b e .0) y
+  valid-out-out w n b x e y = rw (read-out m s b e .0) y
 
-  pub valid-none : (a n from : ℕ) → n ≡ 0 → call m (valid a n from) s ≡ (s, refusal 3)
+  pub valid-none : (w : Bool) (a n from : ℕ) → n ≡ 0 → call m (valid w a n from) s ≡ (s, refusal 3)
   unfolding shadowStep
-  valid-none a n from z = call-step m (valid a n from) s ok fit ∙ rw (eq-eqb n 0 z)
+  valid-none w a n from z = call-step m (valid w a n from) s ok fit ∙ rw (eq-eqb n 0 z)
 
-  pub valid-reads : (a n from : ℕ) → n ≢ 0 → (r : Reading) → rd a ≡ r → call m (valid a n from) s ≡ (s, validAnswer n r (rd from))
+  pub valid-reads : (w : Bool) (a n from : ℕ) → n ≢ 0 → (r : Reading) → rd a ≡ r → call m (valid w a n from) s ≡ (s, validAnswer w n r (rd from))
   unfolding shadowStep validAnswer
-  valid-reads a n from z r er = call-step m (valid a n from) s ok fit ∙ go (test (isDamaged r || isDamaged (rd from)))
+  valid-reads w a n from z r er = call-step m (valid w a n from) s ok fit ∙ go (test (isDamaged r || isDamaged (rd from)))
     where
-      go : Test (isDamaged r || isDamaged (rd from)) → shadowStep (mapRules m) (shadowOps m) (valid a n from) s ≡ (s, validAnswer n r (rd from))
+      go : Test (isDamaged r || isDamaged (rd from)) → shadowStep (mapRules m) (shadowOps m) (valid w a n from) s ≡ (s, validAnswer w n r (rd from))
       go (is-true t) = rw (ne-eqb n 0 z, er, t)
       go (is-false t) = rw (ne-eqb n 0 z, er, t)
 

@@ -1,6 +1,6 @@
 -- The search for the next block by addresses: what a reading settles, and where the climb goes on above it. Assumes nothing.
 use mathlib.Core.Path.{_≡_, refl, sym, ap, _∙_}
-use mathlib.Core.Bool.{true, false, true≢false, false≢true}
+use mathlib.Core.Bool.{Bool, true, false, true≢false, false≢true}
 use mathlib.Core.List.{List}
 use Prim.Native.Nat.{ℕ, zero, suc, _+_, _*_, _-_, _/_, _%_, _≤_, _<_}
 use native.Mathlib.Omega.{arith, by-contra}
@@ -192,26 +192,26 @@ module _ (m : Map) (s : Shadows) (ok : goodMap m ≡ true) (fit : lengthsFit m s
 
   pub damaged-at : (a : ℕ) (l : Located) → Lies m a l → a < top → (r : Reading) → r ≡ at-place l → isDamaged r ≡ true → from rd top a ≡ damaged
   damaged-at a l i h nothing e d = absurd (false≢true d)
-  damaged-at a l i h (block b n o w) e d = absurd (false≢true d)
+  damaged-at a l i h (block b n o w t) e d = absurd (false≢true d)
   damaged-at a l i h damaged e d = climb-damaged rd top a h (read-at a l i ∙ ap (readingUp (originOf m l)) (sym e))
 
   -- a reading with offset 0 is of its block's base
-  base-is : (a : ℕ) (l : Located) → Lies m a l → (b n w : ℕ) → block b n 0 w ≡ at-place l → originOf m l + b ≡ a
-  base-is a (Heap q) i b n w e =
-      let t = heap.reading-told 4 8 (length (s .0)) (at (s .0)) (q .0) b n 0 w (sym e) in
+  base-is : (a : ℕ) (l : Located) → Lies m a l → (b n w : ℕ) (k : Bool) → block b n 0 w k ≡ at-place l → originOf m l + b ≡ a
+  base-is a (Heap q) i b n w k e =
+      let t = heap.reading-told 4 8 (length (s .0)) (at (s .0)) (q .0) b n 0 w k (sym e) in
       let u = within-true hs (m .«heap_size») a (area-heap m a (i .0)) in
       omega (arith, t .low, t .offset, u .0, i .1)
-  base-is a (Stack q) i b n w e =
-      let t = stack.reading-told (length (s .1 .0)) (at (s .1 .0)) (at (s .1 .1)) (q .0) b n 0 w (sym e) in
+  base-is a (Stack q) i b n w k e =
+      let t = stack.reading-told (length (s .1 .0)) (at (s .1 .0)) (at (s .1 .1)) (q .0) b n 0 w k (sym e) in
       let u = within-true ss (m .«stack_size») a (area-stack m a (i .0) .1) in
       omega (arith, t .low, t .offset, u .0, i .1)
-  base-is a Outside i b n w e = absurd (let z : _≡_ {A = ℕ} 0 1 = cc in omega arith)
+  base-is a Outside i b n w k e = absurd (let z : _≡_ {A = ℕ} 0 1 = cc in omega arith)
 
-  pub first-at : (a : ℕ) (l : Located) → Lies m a l → a < top → (r : Reading) → r ≡ at-place l → isFirst r ≡ true → (w : ℕ) × (from rd top a ≡ block a (lengthOf r) 0 w)
+  pub first-at : (a : ℕ) (l : Located) → Lies m a l → a < top → (r : Reading) → r ≡ at-place l → isFirst r ≡ true → (w : ℕ) × (k : Bool) × (from rd top a ≡ block a (lengthOf r) 0 w k)
   first-at a l i h nothing e f = absurd (false≢true f)
-  first-at a l i h (block b n zero w) e f =
-      (w, rw (base-is a l i b n w e) at (climb-first rd top a (originOf m l + b) n 0 w h (read-at a l i ∙ ap (readingUp (originOf m l)) (sym e)) refl))
-  first-at a l i h (block b n (suc o) w) e f = absurd (omega (arith, eqb-true (suc o) 0 f))
+  first-at a l i h (block b n zero w k) e f =
+      (w, k, rw (base-is a l i b n w k e) at (climb-first rd top a (originOf m l + b) n 0 w k h (read-at a l i ∙ ap (readingUp (originOf m l)) (sym e)) refl))
+  first-at a l i h (block b n (suc o) w k) e f = absurd (omega (arith, eqb-true (suc o) 0 f))
   first-at a l i h damaged e f = absurd (false≢true f)
 
 -- ---- where the address lies, by the lengths of two shadows alone

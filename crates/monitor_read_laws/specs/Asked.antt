@@ -1,7 +1,7 @@
 -- Where an address lies: what is read there. What the calls that tell of addresses answer to readings, once map and lengths are right.
 -- Assumes nothing.
 use mathlib.Core.Path.{_≡_}
-use mathlib.Core.Bool.{Bool, false, cond, _&&_, _||_}
+use mathlib.Core.Bool.{Bool, false, cond, not, _&&_, _||_}
 use mathlib.Core.List.{List}
 use Prim.Native.Nat.{ℕ, _%_, _≤_, _<_}
 use lib.ListN.{length}
@@ -12,7 +12,7 @@ use Rattle.plain.specs.Call.{answer, refusal, yesNo}
 use Rattle.plain.specs.declared.Reading as code
 use Rattle.plain.specs.declared.Reading.the-variants as case
 use Rattle.plain.specs.Reading.{Reading, nothing, block, damaged}
-use Rattle.plain.specs.ShadowCalls.{isDamaged, inOne, sameBlock}
+use Rattle.plain.specs.ShadowCalls.{isDamaged, inOne, isLiteral, sameBlock}
 use Rattle.heap_layout.specs.Reading.{heapReading}
 use Rattle.stack_layout.specs.Reading.{stackReading}
 use Rattle.monitor_base.specs.declared.Located.{Located}
@@ -38,12 +38,12 @@ originOf m Outside = 0
 -- the reading of an address that lies in an area
 abbrev pub askReading : Reading → plain.Answer
 askReading nothing = refusal 7
-askReading (block base length offset written) = answer 0 base length offset written
+askReading (block base length offset written literal) = answer 0 base length offset written
 askReading damaged = refusal 8
 
--- the reading of the first of n bytes, and that of the byte whose block they are to lie in
-unfoldable pub validAnswer : (n : ℕ) → Reading → Reading → plain.Answer
-validAnswer n r q = cond (isDamaged r || isDamaged q) (refusal 8) (yesNo (inOne n r && sameBlock r q))
+-- the reading of the first of n bytes, and that of the byte whose block they are to lie in; where the bytes are to be written, no literal
+unfoldable pub validAnswer : (write : Bool) (n : ℕ) → Reading → Reading → plain.Answer
+validAnswer w n r q = cond (isDamaged r || isDamaged q) (refusal 8) (yesNo (inOne n r && sameBlock r q && not (w && isLiteral r)))
 
 -- two readings, where no block holds the bytes that are asked for
 unfoldable pub apartAnswer : Reading → Reading → plain.Answer
@@ -56,5 +56,5 @@ initialisedAnswer n r t = cond (isDamaged r) (refusal 8) (yesNo (inOne n r && t)
 -- a block that a reading tells begins below this position
 abbrev pub baseBelow : code.Reading → ℕ → Type 0
 baseBelow case.Nothing n = Unit {0}
-baseBelow (case.Block base length offset written) n = base .0 < n
+baseBelow (case.Block base length offset bits) n = base .0 < n
 baseBelow case.Damaged n = Unit {0}

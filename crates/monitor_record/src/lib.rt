@@ -1,4 +1,4 @@
-// Records a block, with no byte written or with every byte: the check, then the effect.
+// Records a block: the check, then the effect.
 ghost use mathlib.Core.Path.{_≡_};
 ghost use Rattle.shadows.specs.Shadows.{Shadows};
 ghost use Rattle.monitor_base.specs.Answers.{outcome};
@@ -11,53 +11,40 @@ use monitor_base::Checked;
 use monitor_base::guard;
 use monitor_record_check::check;
 use monitor_stamp::stamp;
+use plain::Beginning;
 
-// The number.
-fn begin(
+// The number alone: an answer in memory would cost more than the check.
+fn numbered(
     map: Map,
     heap: &mut [u8],
     primary: &mut [u8],
     secondary: &mut [u8],
     base: Address,
     len: u32,
-    written: bool,
+    how: Beginning,
 ) -> u32
     ensures { λ r. ⌜ _≡_ {A = Shadows × plain.Answer} ((now (heap .exit), (now (primary .exit), now (secondary .exit))), plain.refusal r)
-        (call map (plain.begin written (base .0) len) (now (heap .entry), (now (primary .entry), now (secondary .entry)))) ⌝ }
+        (call map (plain.begin how (base .0) len) (now (heap .entry), (now (primary .entry), now (secondary .entry)))) ⌝ }
 {
-    let Checked { number, place } = check(map, heap, primary, secondary, base, len);
+    let Checked { number, place } = check(map, heap, primary, secondary, base, len, how);
     if number == 0 {
-        stamp(heap, primary, secondary, place, len, written);
+        stamp(heap, primary, secondary, place, len, how);
     }
     number
 }
 
-// The block joins, no byte written.
-pub fn record(
+// The block joins: no byte written, every byte, or as a literal.
+pub fn begin(
     map: Map,
     heap: &mut [u8],
     primary: &mut [u8],
     secondary: &mut [u8],
     base: Address,
     len: u32,
+    how: Beginning,
 ) -> Answer
     ensures { λ r. ⌜ outcome r (now (heap .exit)) (now (primary .exit)) (now (secondary .exit))
-        ≡ call map (plain.record-block (base .0) len) (now (heap .entry), (now (primary .entry), now (secondary .entry))) ⌝ }
+        ≡ call map (plain.begin how (base .0) len) (now (heap .entry), (now (primary .entry), now (secondary .entry))) ⌝ }
 {
-    guard::refusal(begin(map, heap, primary, secondary, base, len, false))
-}
-
-// The block joins, every byte written.
-pub fn record_written(
-    map: Map,
-    heap: &mut [u8],
-    primary: &mut [u8],
-    secondary: &mut [u8],
-    base: Address,
-    len: u32,
-) -> Answer
-    ensures { λ r. ⌜ outcome r (now (heap .exit)) (now (primary .exit)) (now (secondary .exit))
-        ≡ call map (plain.record-written (base .0) len) (now (heap .entry), (now (primary .entry), now (secondary .entry))) ⌝ }
-{
-    guard::refusal(begin(map, heap, primary, secondary, base, len, true))
+    guard::refusal(numbered(map, heap, primary, secondary, base, len, how))
 }

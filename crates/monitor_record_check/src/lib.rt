@@ -11,8 +11,10 @@ use monitor_base::Located;
 use monitor_base::guard;
 use monitor_base::locating::end;
 use monitor_base::locating::locate;
+use plain::Beginning;
 
-// The number, which does not depend on whether the bytes count as written; where it is 0, the block can be stamped at the place.
+// The number, which depends on how the block begins in the heap alone, where no literal does; where it is 0, the block can be stamped at the
+// place.
 pub fn check(
     map: Map,
     heap: &[u8],
@@ -20,8 +22,9 @@ pub fn check(
     secondary: &[u8],
     base: Address,
     len: u32,
+    how: Beginning,
 ) -> Checked
-    ensures { λ r. ⌜ (r .number ≡ numberOf map (plain.record-block (base .0) len) (now (heap .entry), (now (primary .entry), now (secondary .entry))))
+    ensures { λ r. ⌜ (r .number ≡ numberOf map (plain.begin how (base .0) len) (now (heap .entry), (now (primary .entry), now (secondary .entry))))
         × (r .number ≡ 0 → Lies map (base .0) (r .place) × Stampable (r .place) len (now (heap .entry), (now (primary .entry), now (secondary .entry)))) ⌝ }
 {
     let k = guard::checked(map, heap.len(), primary.len(), secondary.len());
@@ -40,6 +43,9 @@ pub fn check(
     let place = locate(map, base);
     match place {
         Located::Heap(p) => {
+            if let Beginning::Literal = how {
+                return Checked { number: 4, place };
+            }
             let number = monitor_begin::on_heap(heap, p, end(map, Area::Heap), len);
             Checked { number, place }
         }

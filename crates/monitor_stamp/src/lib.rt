@@ -3,23 +3,24 @@ ghost use mathlib.Core.Path.{_≡_};
 ghost use Rattle.shadows.specs.Shadows.{Shadows};
 ghost use Rattle.monitor_write_laws.specs.Checks.{Stampable, stampedAt};
 use monitor_base::Located;
+use plain::Beginning;
 
-// The block joins at the place that the check found; each of its bytes counts as written, or none.
+// The block joins at the place that the check found, as it begins.
 pub fn stamp(
     heap: &mut [u8],
     primary: &mut [u8],
     secondary: &mut [u8],
     place: Located,
     len: u32,
-    written: bool,
+    how: Beginning,
 )
     requires { ⌜ Stampable place len (now heap, (now primary, now secondary)) ⌝ }
     ensures { λ _. ⌜ _≡_ {A = Shadows} (now (heap .exit), (now (primary .exit), now (secondary .exit)))
-        (stampedAt place written len (now (heap .entry), (now (primary .entry), now (secondary .entry)))) ⌝ }
+        (stampedAt place how len (now (heap .entry), (now (primary .entry), now (secondary .entry)))) ⌝ }
 {
     match place {
-        Located::Heap(p) => heap_stamp::stamp(heap, p, len, written),
-        Located::Stack(p) => stack_stamp::stamp(primary, secondary, p, len, written),
+        Located::Heap(p) => heap_stamp::stamp(heap, p, len, how),
+        Located::Stack(p) => stack_stamp::stamp(primary, secondary, p, len, how),
         Located::Outside => {}
     }
 }

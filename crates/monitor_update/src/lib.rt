@@ -7,8 +7,7 @@ use monitor_base::Answer;
 use monitor_base::Update;
 use monitor_clear::clear;
 use monitor_free::free;
-use monitor_record::record;
-use monitor_record::record_written;
+use monitor_record::begin;
 use monitor_written::written;
 
 pub fn update_step(
@@ -23,15 +22,7 @@ pub fn update_step(
 {
     match update {
         Update::Clear => clear(map, heap, primary, secondary),
-        Update::Record(base, length) => record(map, heap, primary, secondary, base, length),
-        Update::RecordWritten(base, length) => record_written(
-            map,
-            heap,
-            primary,
-            secondary,
-            base,
-            length,
-        ),
+        Update::Begin(how, base, length) => begin(map, heap, primary, secondary, base, length, how),
         Update::Free(base) => free(map, heap, primary, secondary, base),
         Update::Written(a, n) => written(map, heap, primary, secondary, a, n),
     }

@@ -1,6 +1,6 @@
-// Whether bytes lie in one block with another: two readings in the areas that they lie in, and an answer.
+// Whether bytes lie in one block with another, and may be written: two readings in the areas that they lie in, and an answer.
 ghost use mathlib.Core.Path.{_≡_};
-ghost use mathlib.Core.Bool.{true};
+ghost use mathlib.Core.Bool.{Bool, true};
 ghost use Prim.Native.Nat.{ℕ, _<_};
 ghost use lib.ListN.{length};
 ghost use Rattle.number.specs.Parts.{at};
@@ -25,7 +25,7 @@ use monitor_base::guard;
 use monitor_base::locating::locate;
 use plain::Reading;
 
-// What valid answers where the first of n bytes lies in the heap.
+// What valid answers where the first of n bytes lies in the heap, which holds no literal: write plays no part.
 fn valid_heap(
     map: Map,
     heap: &[u8],
@@ -36,16 +36,16 @@ fn valid_heap(
     from: Address,
 ) -> Answer
     requires { ⌜ (goodMap map ≡ true) × (lengthsFit map (now heap, (now primary, now secondary)) ≡ true) × (p .0 < length (now heap)) ⌝ }
-    ensures { λ r. ⌜ answerOf r ≡ validAnswer n (readingUp (map .«heap_start») (heapReading 4 8 (length (now (heap .entry))) (at (now (heap .entry))) (p .0)))
-        (readAny (mapRules map) (shadowOps map) (now (heap .entry), (now (primary .entry), now (secondary .entry))) (from .0)) ⌝ }
+    ensures { λ r. ⌜ ((write : Bool) → answerOf r ≡ validAnswer write n (readingUp (map .«heap_start») (heapReading 4 8 (length (now (heap .entry))) (at (now (heap .entry))) (p .0)))
+        (readAny (mapRules map) (shadowOps map) (now (heap .entry), (now (primary .entry), now (secondary .entry))) (from .0))) ⌝ }
 {
     let first = heap_read::read(heap, p);
     match locate(map, from) {
         Located::Heap(q) => {
             if q.0 == p.0 {
-                return monitor_yes_no::judged(first, n, first);
+                return monitor_yes_no::judged(first, n, first, false);
             }
-            monitor_yes_no::judged(first, n, heap_read::read(heap, q))
+            monitor_yes_no::judged(first, n, heap_read::read(heap, q), false)
         }
         Located::Stack(q) => monitor_yes_no::apart(first, stack_read::read(primary, secondary, q)),
         Located::Outside => monitor_yes_no::apart(first, Reading::Nothing),
@@ -61,29 +61,30 @@ fn valid_stack(
     p: Position,
     n: u32,
     from: Address,
+    write: bool,
 ) -> Answer
     requires { ⌜ (goodMap map ≡ true) × (lengthsFit map (now heap, (now primary, now secondary)) ≡ true) × (p .0 < length (now primary)) ⌝ }
     ensures { λ r. ⌜ answerOf r
-        ≡ validAnswer n (readingUp (map .«stack_start») (stackReading (length (now (primary .entry))) (at (now (primary .entry))) (at (now (secondary .entry))) (p .0)))
+        ≡ validAnswer write n (readingUp (map .«stack_start») (stackReading (length (now (primary .entry))) (at (now (primary .entry))) (at (now (secondary .entry))) (p .0)))
         (readAny (mapRules map) (shadowOps map) (now (heap .entry), (now (primary .entry), now (secondary .entry))) (from .0)) ⌝ }
 {
     let first = stack_read::read(primary, secondary, p);
     match locate(map, from) {
         Located::Stack(q) => {
             if q.0 == p.0 {
-                return monitor_yes_no::judged(first, n, first);
+                return monitor_yes_no::judged(first, n, first, write);
             }
-            monitor_yes_no::judged(first, n, stack_read::read(primary, secondary, q))
+            monitor_yes_no::judged(first, n, stack_read::read(primary, secondary, q), write)
         }
         Located::Heap(q) => monitor_yes_no::apart(first, heap_read::read(heap, q)),
         Located::Outside => monitor_yes_no::apart(first, Reading::Nothing),
     }
 }
 
-// What valid answers where the first of n bytes lies in neither area: n plays no part.
+// What valid answers where the first of n bytes lies in neither area: n and write play no part.
 fn valid_outside(map: Map, heap: &[u8], primary: &[u8], secondary: &[u8], from: Address) -> Answer
     requires { ⌜ (goodMap map ≡ true) × (lengthsFit map (now heap, (now primary, now secondary)) ≡ true) ⌝ }
-    ensures { λ r. ⌜ ((n : ℕ) → answerOf r ≡ validAnswer n nothing
+    ensures { λ r. ⌜ ((write : Bool) (n : ℕ) → answerOf r ≡ validAnswer write n nothing
         (readAny (mapRules map) (shadowOps map) (now (heap .entry), (now (primary .entry), now (secondary .entry))) (from .0))) ⌝ }
 {
     match locate(map, from) {
@@ -96,7 +97,8 @@ fn valid_outside(map: Map, heap: &[u8], primary: &[u8], secondary: &[u8], from: 
     }
 }
 
-// Whether n bytes and the byte at from lie in one block: 1 or 0. Both readings count; where they are one it is taken once.
+// Whether n bytes and the byte at from lie in one block, and may be written where that is asked: 1 or 0. Both readings count; where they are one
+// it is taken once.
 pub fn valid(
     map: Map,
     heap: &[u8],
@@ -105,9 +107,10 @@ pub fn valid(
     a: Address,
     n: u32,
     from: Address,
+    write: bool,
 ) -> Answer
     ensures { λ r. ⌜ outcome r (now (heap .entry)) (now (primary .entry)) (now (secondary .entry))
-        ≡ call map (plain.valid (a .0) n (from .0)) (now (heap .entry), (now (primary .entry), now (secondary .entry))) ⌝ }
+        ≡ call map (plain.valid write (a .0) n (from .0)) (now (heap .entry), (now (primary .entry), now (secondary .entry))) ⌝ }
 {
     let k = guard::checked(map, heap.len(), primary.len(), secondary.len());
     if k != 0 {
@@ -118,7 +121,7 @@ pub fn valid(
     }
     match locate(map, a) {
         Located::Heap(p) => valid_heap(map, heap, primary, secondary, p, n, from),
-        Located::Stack(p) => valid_stack(map, heap, primary, secondary, p, n, from),
+        Located::Stack(p) => valid_stack(map, heap, primary, secondary, p, n, from, write),
         Located::Outside => valid_outside(map, heap, primary, secondary, from),
     }
 }

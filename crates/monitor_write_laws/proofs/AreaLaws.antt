@@ -1,6 +1,6 @@
 -- The two areas of a good map: an address of the heap, and one of the stack, is a position of that area's shadows. Assumes nothing.
 use mathlib.Core.Path.{_≡_, refl, sym, _∙_}
-use mathlib.Core.Bool.{true, false}
+use mathlib.Core.Bool.{Bool, true, false}
 use Prim.Native.Nat.{ℕ, _+_, _-_, _%_, _≤_}
 use native.Mathlib.Omega.{arith}
 use lib.ListN.{length}
@@ -32,13 +32,13 @@ use Rattle.monitor_write_laws.proofs.AtLaws.{fits-same, aligned-same, r
 -- ---- a block that is read lies in its area
 
 -- the block that a free is asked for
-first : (r : Reading) (P : ℕ → Type 0) → ((b l w : ℕ) → r ≡ block b l 0 w → P l) → freeRefusal r ≡ 0 → P (lengthOf r)
+first : (r : Reading) (P : ℕ → Type 0) → ((b l w : ℕ) (k : Bool) → r ≡ block b l 0 w k → P l) → freeRefusal r ≡ 0 → P (lengthOf r)
 first nothing P f e = absurd (omega arith)
 first damaged P f e = absurd (omega arith)
-first (block b l o w) P f e = go (test (eqb o 0))
+first (block b l o w k) P f e = go (test (eqb o 0))
   where
     go : Test (eqb o 0) → P l
-    go (is-true t) = f b l w (rw (eqb-true o 0 t))
+    go (is-true t) = f b l w k (rw (eqb-true o 0 t))
     go (is-false t) = absurd (omega (arith, rw t at e))
 
 module _ (size : ℕ) (f : ℕ → ℕ) (p : ℕ) where
@@ -47,8 +47,8 @@ module _ (size : ℕ) (f : ℕ → ℕ) (p : ℕ) where
   heap-first l q e =
       rw q
       (first (heapReading 4 8 size f p) (λ l. (8 ≤ p) × (p % 8 ≡ 0) × (p + l ≤ size) × (1 ≤ l))
-      (λ b l w h.
-      let t = heap.reading-told 4 8 size f p b l 0 w h in
+      (λ b l w k h.
+      let t = heap.reading-told 4 8 size f p b l 0 w k h in
       let q : p ≡ b = omega arith in
       (omega arith, rw q (t .aligned), omega arith, t .some))
       e)
@@ -58,7 +58,7 @@ module _ (size : ℕ) (f g : ℕ → ℕ) (p : ℕ) where
   stack-first l q e =
       rw q
       (first (stackReading size f g p) (λ l. p + l ≤ size)
-      (λ b l w h. let t = stack.reading-told size f g p b l 0 w h in omega arith) e)
+      (λ b l w k h. let t = stack.reading-told size f g p b l 0 w k h in omega arith) e)
 
 -- ---- an address of neither area
 
@@ -106,6 +106,7 @@ module _ (m : Map) (s : Shadows) (ok : goodMap m ≡ true) (fit : lengthsFit m s
         inside = rw w;
         fits = λ l. whole-fits w l ∙ fits-same hs H (heapRules 8 0 hz) down up a l p (f .0) q;
         aligned = λ l h. rw w (aligned-same hs H (heapRules 8 0 hz) down up a l p (f .0) q (sym (whole-fits w l) ∙ h));
+        heap = rw w;
         read = rw (w, q);
         vacant = λ l. rw (w, q);
         stamp = λ t l. rw (w, q);
@@ -129,6 +130,7 @@ module _ (m : Map) (s : Shadows) (ok : goodMap m ≡ true) (fit : lengthsFit m s
         inside = rw (v .0, v .1);
         fits = λ l. rw (v .0) (fits-same ss (stackRules ss sz) (stackRules 0 sz) (stack-shifted ss sz) (stack-unshifted ss sz) a l p (f .0) q);
         aligned = λ l h. rw (v .0);
+        heap = rw (v .0);
         read = rw (v .0, q);
         vacant = λ l. rw (v .0, q);
         stamp = λ t l. rw (v .0, q);

@@ -1,18 +1,19 @@
 -- A call at an address of an area is the call on that area's shadows at the position. Assumes nothing.
 use mathlib.Core.Path.{_≡_, refl, sym, ap, _∙_}
-use mathlib.Core.Bool.{Bool, true, false, cond, not}
+use mathlib.Core.Bool.{Bool, true, false, cond, not, _&&_}
 use mathlib.Core.List.{_++_}
 use Prim.Native.Nat.{ℕ, zero, suc, _+_, _-_, _≤_, _<_}
 use native.Mathlib.Omega.{arith}
 use lib.Dec.{eqb}
 use Rattle.number.proofs.TestLaws.{Test, is-true, is-false, test, same-test, not-both}
+use Rattle.plain.specs.declared.Beginning.{Beginning}
 use Rattle.plain.specs.Block.{begun}
 use Rattle.plain.specs.Rules.{Rules}
 use Rattle.plain.specs.Reading.{Reading, nothing, block, damaged}
 use Rattle.plain.specs.Lift.{Shifted, readingUp}
 use Rattle.plain.specs.Ops.{Ops, markRange, readAny}
 use Rattle.plain.specs.Call.{Call, begin, free, Answer, done, firstOf, unless, byRules}
-use Rattle.plain.specs.ShadowCalls.{isDamaged, inOne, lengthOf, byShadows, shadowsAfter, shadowStep}
+use Rattle.plain.specs.ShadowCalls.{isDamaged, inOne, isLiteral, lengthOf, byShadows, shadowsAfter, shadowStep}
 use Rattle.plain.proofs.LiftLaws.{Unshifted}
 use Rattle.monitor_write_laws.specs.AreaCalls.{freeRefusal, writtenRefusal, freeAt}
 use Rattle.monitor_write_laws.proofs.StepLaws.{freed, free-is}
@@ -49,9 +50,10 @@ pub record At {S X : Type 0} (R : Rules) (O : Ops S) (s : S) (a : ℕ) (E : Rule
   pub inside : R .inside a ≡ true
   pub fits : (l : ℕ) → R .fits a l ≡ E .fits p l
   pub aligned : (l : ℕ) → R .fits a l ≡ true → R .aligned a ≡ E .aligned p
+  pub heap : R .heap a ≡ E .heap p
   pub read : O .read s a ≡ readingUp start (P .read x p)
   pub vacant : (l : ℕ) → O .vacant s a l ≡ P .vacant x p l
-  pub stamp : (w : Bool) (l : ℕ) → O .stamp s (begun w a l) ≡ put (P .stamp x (begun w p l))
+  pub stamp : (how : Beginning) (l : ℕ) → O .stamp s (begun how a l) ≡ put (P .stamp x (begun how p l))
   pub erase : (l : ℕ) → O .erase s a l ≡ put (P .erase x p l)
   pub mark : (n : ℕ) → inOne n (P .read x p) ≡ true → markRange O s a n ≡ put (markRange P x p n)
 
@@ -64,13 +66,13 @@ abbrev refusedBy : {S : Type 0} → Rules → Ops S → Call → S → ℕ
 refusedBy R O c s = firstOf (byRules R c ++ byShadows R O c s)
 
 -- where no number holds, the bytes lie in one block
-pub written-passed : (n : ℕ) (r : Reading) → writtenRefusal n r ≡ 0 → inOne n r ≡ true
-written-passed n r e = go (isDamaged r) (inOne n r) e
+pub written-passed : (t : Bool) (n : ℕ) (r : Reading) → writtenRefusal t n r ≡ 0 → inOne n r ≡ true
+written-passed t n r e = go (isDamaged r) (inOne n r) (t && isLiteral r) e
   where
-    go : (d i : Bool) → _≡_ {A = ℕ} (cond d 8 (cond (not i) 7 0)) 0 → i ≡ true
-    go true i e = absurd (omega arith)
-    go false true e = refl
-    go false false e = absurd (omega arith)
+    go : (d i k : Bool) → _≡_ {A = ℕ} (cond d 8 (cond (not i) 7 (cond k 13 0))) 0 → i ≡ true
+    go true i k e = absurd (omega arith)
+    go false true k e = refl
+    go false false k e = absurd (omega arith)
 
 module _ {S X : Type 0} (R : Rules) (O : Ops S) (s : S) (a : ℕ) (E : Rules) (P : Ops X) (x : X) (p : ℕ) (put : X → S) (i : At R O s a E P x p put) where
   -- the same number, and what is accepted beside the rest
@@ -78,18 +80,18 @@ module _ {S X : Type 0} (R : Rules) (O : Ops S) (s : S) (a : ℕ) (E : Rules) (P
   beside-same k zero t y e h = rw (e, h refl)
   beside-same k (suc j) t y e h = rw (e, i .whole)
 
-  pub begin-at : (w : Bool) (l : ℕ) → shadowStep R O (begin w a l) s ≡ beside put (shadowStep E P (begin w p l) x)
+  pub begin-at : (how : Beginning) (l : ℕ) → shadowStep R O (begin how a l) s ≡ beside put (shadowStep E P (begin how p l) x)
   unfolding shadowStep
-  begin-at w l = beside-same (refusedBy R O c s) (refusedBy E P d x) (shadowsAfter R O c s) (shadowsAfter E P d x) (go (test (E .fits p l))) (λ z. i .stamp w l)
+  begin-at how l = beside-same (refusedBy R O c s) (refusedBy E P d x) (shadowsAfter R O c s) (shadowsAfter E P d x) (go (test (E .fits p l))) (λ z. i .stamp how l)
     where
       c : Call
-      c = begin w a l
+      c = begin how a l
 
       d : Call
-      d = begin w p l
+      d = begin how p l
 
       go : Test (E .fits p l) → refusedBy R O c s ≡ refusedBy E P d x
-      go (is-true f) = rw (i .vacant l, i .aligned l (i .fits l ∙ f), i .fits l)
+      go (is-true f) = rw (i .vacant l, i .aligned l (i .fits l ∙ f), i .fits l, i .heap)
       go (is-false f) = rw (i .fits l, f)
 
   there : readAny R O s a ≡ readingUp (i .start) (P .read x p)
@@ -103,4 +105,4 @@ module _ {S X : Type 0} (R : Rules) (O : Ops S) (s : S) (a : ℕ) (E : Rules) (P
       go : (r : Reading) → freed R O s a true (readingUp (i .start) r) ≡ beside put (unless (freeRefusal r) x (P .erase x p (lengthOf r), done))
       go nothing = rw (i .whole)
       go damaged = rw (i .whole)
-      go (block b l o w) = beside-same _ (cond (not (eqb o 0)) 7 0) _ (P .erase x p l) refl (λ z. i .erase l)
+      go (block b l o w t) = beside-same _ (cond (not (eqb o 0)) 7 0) _ (P .erase x p l) refl (λ z. i .erase l)

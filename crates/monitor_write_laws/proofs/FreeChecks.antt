@@ -36,7 +36,7 @@ use Rattle.monitor_write_laws.proofs.CheckLaws.{told, number-step, numb
 -- a block is as long wherever its area starts
 up-length : (start : ℕ) (r : Reading) → lengthOf (readingUp start r) ≡ lengthOf r
 up-length start nothing = refl
-up-length start (block b l o w) = refl
+up-length start (block b l o w t) = refl
 up-length start damaged = refl
 
 module _ (m : Map) (s : Shadows) (b : ℕ) where

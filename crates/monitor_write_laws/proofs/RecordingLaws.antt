@@ -7,9 +7,10 @@ use Prim.Native.Nat.{ℕ, _+_, _%_, _≤_, _<_}
 use native.Mathlib.Omega.{arith}
 use lib.ListN.{length}
 use borrow.Author.Tests.{eq-eqb, ne-eqb}
-use Rattle.number.proofs.TestLaws.{false-of}
+use Rattle.number.proofs.TestLaws.{and-true, false-of}
+use Rattle.plain.specs.declared.Beginning.the-variants.{Unwritten}
 use Rattle.plain.specs.Areas.{heapRules, stackRules}
-use Rattle.plain.specs.Call.{record-block}
+use Rattle.plain.specs.Call.{record-block, allows}
 use Rattle.plain.proofs.AreaLaws.{heap-span, span-heap, stack-span, span-stack}
 use Rattle.heap_layout.specs.Ops.{heapVacant}
 use Rattle.stack_layout.specs.Ops.{StackShadows, stackVacant}
@@ -22,24 +23,24 @@ module _ (h : List ℕ) (b l : ℕ) (some : 1 ≤ l) where
   heapNumber = told (onHeap (record-block b l) h)
 
   module _ (z : ℕ) where
-    heap-fits : 8 ≤ b → b + l ≤ z → heapRules 8 0 z .fits b l ≡ true
-    heap-fits x y = span-heap 8 0 z b l (record { from = omega arith; to = omega arith; begins = omega arith })
+    heap-fits : 8 ≤ b → b + l ≤ z → allows (heapRules 8 0 z) Unwritten b l ≡ true
+    heap-fits x y = rw (span-heap 8 0 z b l (record { from = omega arith; to = omega arith; begins = omega arith }))
 
-    heap-misfits : (8 ≤ b → b + l ≤ z → ⊥) → heapRules 8 0 z .fits b l ≡ false
-    heap-misfits n = false-of _ (λ f. let t = heap-span 8 0 z b l f in n (omega arith) (omega arith))
+    heap-misfits : (8 ≤ b → b + l ≤ z → ⊥) → allows (heapRules 8 0 z) Unwritten b l ≡ false
+    heap-misfits n = false-of _ (λ f. let t = heap-span 8 0 z b l (and-true _ true f .0) in n (omega arith) (omega arith))
 
   pub heap-4 : (8 ≤ b → b + l ≤ length h → ⊥) → 4 ≡ heapNumber
-  heap-4 n = sym (ap told (begin-4 _ _ h false b l (λ e. omega arith) (heap-misfits (length h) n)))
+  heap-4 n = sym (ap told (begin-4 _ _ h Unwritten b l (λ e. omega arith) (heap-misfits (length h) n)))
 
   module _ (x : 8 ≤ b) (y : b + l ≤ length h) where
     pub heap-5 : b % 8 ≢ 0 → 5 ≡ heapNumber
-    heap-5 n = sym (ap told (begin-5 _ _ h false b l (λ e. omega arith) (heap-fits (length h) x y) (ne-eqb (b % 8) 0 n)))
+    heap-5 n = sym (ap told (begin-5 _ _ h Unwritten b l (λ e. omega arith) (heap-fits (length h) x y) (ne-eqb (b % 8) 0 n)))
 
     pub heap-6 : b % 8 ≡ 0 → heapVacant 4 8 h b l ≡ false → 6 ≡ heapNumber
-    heap-6 a v = sym (ap told (begin-6 _ _ h false b l (λ e. omega arith) (heap-fits (length h) x y) (eq-eqb (b % 8) 0 a) v))
+    heap-6 a v = sym (ap told (begin-6 _ _ h Unwritten b l (λ e. omega arith) (heap-fits (length h) x y) (eq-eqb (b % 8) 0 a) v))
 
     pub heap-0 : b % 8 ≡ 0 → heapVacant 4 8 h b l ≡ true → 0 ≡ heapNumber
-    heap-0 a v = sym (ap told (begin-0 _ _ h false b l (λ e. omega arith) (heap-fits (length h) x y) (eq-eqb (b % 8) 0 a) v _ refl))
+    heap-0 a v = sym (ap told (begin-0 _ _ h Unwritten b l (λ e. omega arith) (heap-fits (length h) x y) (eq-eqb (b % 8) 0 a) v _ refl))
 
 module _ (s : StackShadows) (b l : ℕ) (some : 1 ≤ l) where
   abbrev stackNumber : ℕ
@@ -49,15 +50,15 @@ module _ (s : StackShadows) (b l : ℕ) (some : 1 ≤ l) where
   stack-4 n =
       sym
       (ap told
-      (begin-4 _ _ s false b l (λ e. omega arith)
-      (false-of _ (λ f. let t = stack-span 0 (length (s .0)) b l f in omega arith))))
+      (begin-4 _ _ s Unwritten b l (λ e. omega arith)
+      (false-of _ (λ f. let t = stack-span 0 (length (s .0)) b l (and-true _ true f .0) in omega arith))))
 
   module _ (y : b + l ≤ length (s .0)) where
-    stack-fits : stackRules 0 (length (s .0)) .fits b l ≡ true
-    stack-fits = span-stack 0 (length (s .0)) b l (record { from = omega arith; to = omega arith; begins = omega arith })
+    stack-fits : allows (stackRules 0 (length (s .0))) Unwritten b l ≡ true
+    stack-fits = rw (span-stack 0 (length (s .0)) b l (record { from = omega arith; to = omega arith; begins = omega arith }))
 
     pub stack-6 : stackVacant s b l ≡ false → 6 ≡ stackNumber
-    stack-6 v = sym (ap told (begin-6 _ _ s false b l (λ e. omega arith) stack-fits refl v))
+    stack-6 v = sym (ap told (begin-6 _ _ s Unwritten b l (λ e. omega arith) stack-fits refl v))
 
     pub stack-0 : stackVacant s b l ≡ true → 0 ≡ stackNumber
-    stack-0 v = sym (ap told (begin-0 _ _ s false b l (λ e. omega arith) stack-fits refl v _ refl))
+    stack-0 v = sym (ap told (begin-0 _ _ s Unwritten b l (λ e. omega arith) stack-fits refl v _ refl))

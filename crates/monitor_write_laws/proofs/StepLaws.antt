@@ -6,12 +6,13 @@ use mathlib.Core.List.{[], _∷_}
 use Prim.Native.Nat.{ℕ, zero, suc}
 use lib.Dec.{eqb}
 use borrow.Author.Tests.{eq-eqb, ne-eqb}
+use Rattle.plain.specs.declared.Beginning.{Beginning}
 use Rattle.plain.specs.Block.{begun}
 use Rattle.plain.specs.Rules.{Rules}
 use Rattle.plain.specs.Reading.{Reading}
 use Rattle.plain.specs.Ops.{Ops, markRange, readAny}
-use Rattle.plain.specs.Call.{Call, begin, free, written, Answer, refusal, done, firstOf, unless}
-use Rattle.plain.specs.ShadowCalls.{isDamaged, isFirst, inOne, lengthOf, shadowStep}
+use Rattle.plain.specs.Call.{Call, begin, free, written, Answer, refusal, done, firstOf, unless, allows}
+use Rattle.plain.specs.ShadowCalls.{isDamaged, isFirst, inOne, isLiteral, lengthOf, shadowStep}
 use Rattle.monitor_write_laws.specs.AreaCalls.{freeRefusal, writtenRefusal, freeAt}
 
 -- accepted, by a number that is known by an equation
@@ -28,25 +29,25 @@ module _ {S : Type 0} (R : Rules) (O : Ops S) (s : S) where
   abbrev step : Call → S × Answer
   step c = shadowStep R O c s
 
-  module _ (w : Bool) (b l : ℕ) where
-    pub begin-3 : l ≡ 0 → step (begin w b l) ≡ (s, refusal 3)
+  module _ (how : Beginning) (b l : ℕ) where
+    pub begin-3 : l ≡ 0 → step (begin how b l) ≡ (s, refusal 3)
     unfolding shadowStep
     begin-3 e = rw e
 
-    pub begin-4 : l ≢ 0 → R .fits b l ≡ false → step (begin w b l) ≡ (s, refusal 4)
+    pub begin-4 : l ≢ 0 → allows R how b l ≡ false → step (begin how b l) ≡ (s, refusal 4)
     unfolding shadowStep
     begin-4 n f = rw (ne-eqb l 0 n, f)
 
-    pub begin-5 : l ≢ 0 → R .fits b l ≡ true → R .aligned b ≡ false → step (begin w b l) ≡ (s, refusal 5)
+    pub begin-5 : l ≢ 0 → allows R how b l ≡ true → R .aligned b ≡ false → step (begin how b l) ≡ (s, refusal 5)
     unfolding shadowStep
     begin-5 n f a = rw (ne-eqb l 0 n, f, a)
 
-    pub begin-6 : l ≢ 0 → R .fits b l ≡ true → R .aligned b ≡ true → O .vacant s b l ≡ false → step (begin w b l) ≡ (s, refusal 6)
+    pub begin-6 : l ≢ 0 → allows R how b l ≡ true → R .aligned b ≡ true → O .vacant s b l ≡ false → step (begin how b l) ≡ (s, refusal 6)
     unfolding shadowStep
     begin-6 n f a v = rw (ne-eqb l 0 n, f, a, v)
 
-    pub begin-0 : l ≢ 0 → R .fits b l ≡ true → R .aligned b ≡ true → O .vacant s b l ≡ true → (t : S) → t ≡ O .stamp s (begun w b l)
-        → step (begin w b l) ≡ (t, done)
+    pub begin-0 : l ≢ 0 → allows R how b l ≡ true → R .aligned b ≡ true → O .vacant s b l ≡ true → (t : S) → t ≡ O .stamp s (begun how b l)
+        → step (begin how b l) ≡ (t, done)
     unfolding shadowStep
     begin-0 n f a v t e = rw (ne-eqb l 0 n, f, a, v, e)
 
@@ -69,7 +70,7 @@ module _ {S : Type 0} (R : Rules) (O : Ops S) (s : S) where
 
   module _ (a : ℕ) where
     abbrev pub marks : (n : ℕ) → Bool → Reading → S × Answer
-    marks n i r = unless (firstOf ((3, eqb n 0) ∷ (4, not i) ∷ (8, isDamaged r) ∷ (7, not (inOne n r)) ∷ [])) s (markRange O s a n, done)
+    marks n i r = unless (firstOf ((3, eqb n 0) ∷ (4, not i) ∷ (8, isDamaged r) ∷ (7, not (inOne n r)) ∷ (13, isLiteral r) ∷ [])) s (markRange O s a n, done)
 
     pub written-is : (n : ℕ) (i : Bool) (r : Reading) → R .inside a ≡ i → readAny R O s a ≡ r → step (written a n) ≡ marks n i r
     unfolding shadowStep
@@ -84,5 +85,5 @@ module _ {S : Type 0} (R : Rules) (O : Ops S) (s : S) where
 
     -- an address of an area, by its reading
     pub written-reads : R .inside a ≡ true → (r : Reading) → readAny R O s a ≡ r → (n : ℕ) → n ≢ 0
-        → step (written a n) ≡ unless (writtenRefusal n r) s (markRange O s a n, done)
+        → step (written a n) ≡ unless (writtenRefusal true n r) s (markRange O s a n, done)
     written-reads i r e n m = written-is n true r i e ∙ rw (ne-eqb n 0 m)

@@ -1,6 +1,6 @@
 -- The check of a mark of written bytes: its number by areas, and what is known where that is 0. Assumes nothing.
 use mathlib.Core.Path.{_≡_, refl, sym, ap, subst, _∙_}
-use mathlib.Core.Bool.{true}
+use mathlib.Core.Bool.{true, false}
 use mathlib.Core.Logic.{_≢_}
 use Prim.Native.Nat.{ℕ, zero, suc, _-_}
 use native.Mathlib.Omega.{arith}
@@ -14,7 +14,7 @@ use Rattle.plain.specs.Reading.{Reading, nothing, block, damaged}
 use Rattle.plain.specs.Lift.{readingUp}
 use Rattle.plain.specs.Ops.{markRange, readAny}
 use Rattle.plain.specs.Call.{Answer, written, refusal, done}
-use Rattle.plain.specs.ShadowCalls.{inOne}
+use Rattle.plain.specs.ShadowCalls.{inOne, isLiteral}
 use Rattle.plain.proofs.RunLaws.{unless-number}
 use Rattle.heap_layout.specs.Reading.{heapReading}
 use Rattle.stack_layout.specs.Reading.{stackReading}
@@ -23,7 +23,7 @@ use Rattle.monitor_base.specs.Locating.{Lies}
 use Rattle.monitor_base.specs.Calls.{call}
 use Rattle.monitor_base.specs.declared.Located.{Located}
 use Rattle.monitor_base.specs.declared.Located.the-variants.{Heap, Stack, Outside}
-use Rattle.monitor_base.proofs.LocatingLaws.{heap-there, read-heap, read-stack, out-inside, heap-room, stack-room}
+use Rattle.monitor_base.proofs.LocatingLaws.{heap-there, read-heap, read-stack, out-inside, heap-literal, heap-room, stack-room}
 use Rattle.monitor_write_laws.specs.AreaCalls.{writtenRefusal}
 use Rattle.monitor_write_laws.specs.Checks.{numberOf, Idle, Markable, markedAt}
 use Rattle.monitor_write_laws.proofs.StepLaws.{written-3, written-4, written-reads}
@@ -32,10 +32,14 @@ use Rattle.monitor_write_laws.proofs.AreaLaws.{heap-at, stack-at}
 use Rattle.monitor_write_laws.proofs.CheckLaws.{told, number-step, number-good, call-refused, call-accepted}
 
 -- a reading gives the same number wherever its area starts
-up-refusal : (start n : ℕ) (r : Reading) → writtenRefusal n (readingUp start r) ≡ writtenRefusal n r
+up-refusal : (start n : ℕ) (r : Reading) → writtenRefusal true n (readingUp start r) ≡ writtenRefusal true n r
 up-refusal start n nothing = refl
-up-refusal start n (block b l o w) = refl
+up-refusal start n (block b l o w t) = refl
 up-refusal start n damaged = refl
+
+-- in an area that cannot hold a literal the mark has no part in it
+no-mark : (n : ℕ) (r : Reading) → isLiteral r ≡ false → writtenRefusal false n r ≡ writtenRefusal true n r
+no-mark n r e = rw e
 
 module _ (m : Map) (s : Shadows) (a n : ℕ) where
   abbrev heapRead : (p : ℕ) → Reading
@@ -53,18 +57,20 @@ module _ (m : Map) (s : Shadows) (a n : ℕ) where
       written-number-4 o = number-step m (written a n) s ok fit 4 (ap told (written-4 (mapRules m) (shadowOps m) s a n some (out-inside m a o)))
 
       -- an address of an area, by its reading
-      by-reading : (r : Reading) → mapRules m .inside a ≡ true → readAny (mapRules m) (shadowOps m) s a ≡ r → writtenRefusal n r ≡ numberOf m (written a n) s
+      by-reading : (r : Reading) → mapRules m .inside a ≡ true → readAny (mapRules m) (shadowOps m) s a ≡ r → writtenRefusal true n r ≡ numberOf m (written a n) s
       by-reading r i e =
-          number-step m (written a n) s ok fit (writtenRefusal n r)
-          (ap told (written-reads (mapRules m) (shadowOps m) s a i r e n some) ∙ unless-number (writtenRefusal n r) s (markRange (shadowOps m) s a n, done) refl)
+          number-step m (written a n) s ok fit (writtenRefusal true n r)
+          (ap told (written-reads (mapRules m) (shadowOps m) s a i r e n some) ∙ unless-number (writtenRefusal true n r) s (markRange (shadowOps m) s a n, done) refl)
 
       module _ (p : ℕ) where
-        pub written-heap : areaOf m a ≡ area.Heap → p ≡ a - m .«heap_start» → writtenRefusal n (heapRead p) ≡ numberOf m (written a n) s
+        pub written-heap : areaOf m a ≡ area.Heap → p ≡ a - m .«heap_start» → writtenRefusal false n (heapRead p) ≡ numberOf m (written a n) s
         written-heap e q =
             let r = read-heap m s ok fit a p e q in
-            sym (up-refusal (m .«heap_start») n (heapRead p)) ∙ by-reading (readingUp (m .«heap_start») (heapRead p)) (r .1) (r .0)
+            no-mark n (heapRead p) (heap-literal (length (s .0)) (at (s .0)) p)
+            ∙ sym (up-refusal (m .«heap_start») n (heapRead p))
+            ∙ by-reading (readingUp (m .«heap_start») (heapRead p)) (r .1) (r .0)
 
-        pub written-stack : areaOf m a ≡ area.Stack → p ≡ a - m .«stack_start» → writtenRefusal n (stackRead p) ≡ numberOf m (written a n) s
+        pub written-stack : areaOf m a ≡ area.Stack → p ≡ a - m .«stack_start» → writtenRefusal true n (stackRead p) ≡ numberOf m (written a n) s
         written-stack e q =
             let r = read-stack m s ok fit a p e q in
             sym (up-refusal (m .«stack_start») n (stackRead p)) ∙ by-reading (readingUp (m .«stack_start») (stackRead p)) (r .1) (r .0)
@@ -82,10 +88,10 @@ module _ (m : Map) (s : Shadows) (a n : ℕ) where
     outside o = omega (arith, written-number-4 (good .0) (good .1) some o, z)
 
     in-heap : (p : ℕ) → areaOf m a ≡ area.Heap → p ≡ a - m .«heap_start» → inOne n (heapRead p) ≡ true
-    in-heap p e q = written-passed n (heapRead p) (written-heap (good .0) (good .1) some p e q ∙ z)
+    in-heap p e q = written-passed false n (heapRead p) (written-heap (good .0) (good .1) some p e q ∙ z)
 
     in-stack : (p : ℕ) → areaOf m a ≡ area.Stack → p ≡ a - m .«stack_start» → inOne n (stackRead p) ≡ true
-    in-stack p e q = written-passed n (stackRead p) (written-stack (good .0) (good .1) some p e q ∙ z)
+    in-stack p e q = written-passed true n (stackRead p) (written-stack (good .0) (good .1) some p e q ∙ z)
 
     markable-0 : (x : Located) → Lies m a x → Markable x n (s .0) (s .1 .0)
     markable-0 (Heap p) (e, q) =

@@ -1,5 +1,5 @@
 -- One call on the shadows of one area, by positions; what a reading decides. Assumes nothing.
-use mathlib.Core.Bool.{not}
+use mathlib.Core.Bool.{Bool, not, _&&_}
 use mathlib.Core.List.{List, [], _∷_}
 use Prim.Native.Nat.{ℕ}
 use lib.ListN.{length}
@@ -7,16 +7,17 @@ use Rattle.plain.specs.Areas.{heapRules, stackRules}
 use Rattle.plain.specs.Reading.{Reading}
 use Rattle.plain.specs.Ops.{Ops}
 use Rattle.plain.specs.Call.{Call, Answer, done, firstOf, unless}
-use Rattle.plain.specs.ShadowCalls.{isDamaged, isFirst, inOne, lengthOf, shadowStep}
+use Rattle.plain.specs.ShadowCalls.{isDamaged, isFirst, inOne, isLiteral, lengthOf, shadowStep}
 use Rattle.heap_layout.specs.Ops.{heapOps}
 use Rattle.stack_layout.specs.Ops.{StackShadows, stackOps}
 
--- the numbers that a reading decides: of the base that is to be freed, of the first of n bytes that are to be written
+-- the numbers that a reading decides: of the base that is to be freed, of the first of n bytes that are to be written in an area that may hold
+-- literals, or in one that cannot
 abbrev pub freeRefusal : Reading → ℕ
 freeRefusal r = firstOf ((8, isDamaged r) ∷ (7, not (isFirst r)) ∷ [])
 
-abbrev pub writtenRefusal : (n : ℕ) → Reading → ℕ
-writtenRefusal n r = firstOf ((8, isDamaged r) ∷ (7, not (inOne n r)) ∷ [])
+abbrev pub writtenRefusal : (literals : Bool) (n : ℕ) → Reading → ℕ
+writtenRefusal t n r = firstOf ((8, isDamaged r) ∷ (7, not (inOne n r)) ∷ (13, t && isLiteral r) ∷ [])
 
 -- free by a position, not an address: position 0 is the area's first byte, not C's null pointer, and has no case of its own
 abbrev pub freeAt : {S : Type 0} → Ops S → (p : ℕ) → S → S × Answer

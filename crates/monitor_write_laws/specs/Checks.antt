@@ -1,11 +1,12 @@
 -- A call that writes is a check, which only reads, and an effect at the place that the check found. Assumes nothing.
 use mathlib.Core.Path.{_≡_}
-use mathlib.Core.Bool.{Bool, true}
+use mathlib.Core.Bool.{true}
 use mathlib.Core.Logic.{_≢_}
 use mathlib.Core.List.{List}
 use Prim.Native.Nat.{ℕ, _+_, _%_, _≤_}
 use lib.ListN.{length}
 use Rattle.map.specs.declared.Map.{Map}
+use Rattle.plain.specs.declared.Beginning.{Beginning}
 use Rattle.plain.specs.Areas.{mapRules}
 use Rattle.plain.specs.Block.{begun}
 use Rattle.plain.specs.Ops.{markRange, readAny}
@@ -37,10 +38,10 @@ Stampable (Stack p) l s =
     (p .0 + l ≤ length (s .1 .0)) × (length (s .1 .0) ≡ length (s .1 .1)) × (length (s .1 .0) ≤ 65536) × (1 ≤ l) × (stackVacant (s .1) (p .0) l ≡ true)
 Stampable Outside l s = ⊥
 
-abbrev pub stampedAt : Located → Bool → (l : ℕ) → Shadows → Shadows
-stampedAt (Heap p) w l s = (heapStamp 4 8 (s .0) (begun w (p .0) l), s .1)
-stampedAt (Stack p) w l s = (s .0, stackStamp (s .1) (begun w (p .0) l))
-stampedAt Outside w l s = s
+abbrev pub stampedAt : Located → Beginning → (l : ℕ) → Shadows → Shadows
+stampedAt (Heap p) how l s = (heapStamp 4 8 (s .0) (begun how (p .0) l), s .1)
+stampedAt (Stack p) how l s = (s .0, stackStamp (s .1) (begun how (p .0) l))
+stampedAt Outside how l s = s
 
 -- ---- a free
 

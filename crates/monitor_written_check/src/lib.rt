@@ -13,13 +13,17 @@ use monitor_base::guard;
 use monitor_base::locating::locate;
 use plain::Reading;
 
-// The number that a reading of the first of n bytes gives: 0 where they lie in one block. The sum is taken in 64 bits, where it cannot wrap.
-fn refused(r: Reading, n: u32) -> u32
-    ensures { λ k. ⌜ k ≡ writtenRefusal n (readingOf r) ⌝ }
+// The number that a reading of the first of n bytes gives, in an area with literals or in one without: 0 where they lie in one block, which is
+// no literal. The sum is taken in 64 bits, where it cannot wrap.
+fn refused(r: Reading, n: u32, literals: bool) -> u32
+    ensures { λ k. ⌜ k ≡ writtenRefusal literals n (readingOf r) ⌝ }
 {
-    if let Reading::Block(_, len, offset, _) = r {
+    if let Reading::Block(_, len, offset, bits) = r {
         if (len as u64) < offset as u64 + n as u64 {
             return 7;
+        }
+        if literals & (bits & 2 != 0) {
+            return 13;
         }
         return 0;
     }
@@ -60,12 +64,15 @@ pub fn check(map: Map, heap: &[u8], primary: &[u8], secondary: &[u8], a: Address
         };
     }
     match locate(map, a) {
-        Located::Heap(p) => in_area(refused(heap_read::read(heap, p), n), Located::Heap(p)),
+        Located::Heap(p) => in_area(
+            refused(heap_read::read(heap, p), n, false),
+            Located::Heap(p),
+        ),
         Located::Stack(p) => {
             // The reading takes the reference from memory: this one is stored here alone, and not where the heap is read too.
             let lent = secondary;
             in_area(
-                refused(stack_read::read(primary, lent, p), n),
+                refused(stack_read::read(primary, lent, p), n, true),
                 Located::Stack(p),
             )
         }

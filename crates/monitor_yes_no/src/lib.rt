@@ -1,7 +1,7 @@
 // What readings say of bytes.
 ghost use mathlib.Core.Path.{_≡_};
 ghost use Rattle.plain.specs.Answers.{readingOf};
-ghost use Rattle.plain.specs.ShadowCalls.{sameBlock};
+ghost use Rattle.plain.specs.ShadowCalls.{isLiteral, sameBlock};
 ghost use Rattle.monitor_base.specs.Answers.{answerOf};
 ghost use Rattle.monitor_read_laws.specs.Asked.{validAnswer, apartAnswer};
 ghost use Rattle.plain.specs.Call as plain;
@@ -23,6 +23,17 @@ fn same_block(r: Reading, q: Reading) -> bool
                 Reading::Block(other, len, _, _) => (base.0 == other.0) & (length == len),
             }
         }
+    }
+}
+
+// Whether it is of a literal.
+fn literal(r: Reading) -> bool
+    ensures { λ t. ⌜ t ≡ isLiteral (readingOf r) ⌝ }
+{
+    match r {
+        Reading::Damaged => false,
+        Reading::Nothing => false,
+        Reading::Block(_, _, _, bits) => bits & 2 != 0,
     }
 }
 
@@ -49,12 +60,13 @@ pub fn apart(first: Reading, other: Reading) -> Answer
     yes_no(false)
 }
 
-// What valid answers to the reading of the first of n bytes and that of the byte they belong to, both in one area.
-pub fn judged(first: Reading, n: u32, other: Reading) -> Answer
-    ensures { λ r. ⌜ answerOf r ≡ validAnswer n (readingOf first) (readingOf other) ⌝ }
+// What valid answers to the reading of the first of n bytes and that of the byte they belong to, both in one area: where the bytes are to be
+// written, the first must not be of a literal.
+pub fn judged(first: Reading, n: u32, other: Reading, write: bool) -> Answer
+    ensures { λ r. ⌜ answerOf r ≡ validAnswer write n (readingOf first) (readingOf other) ⌝ }
 {
     if monitor_reading::in_one(first, n) & same_block(first, other) {
-        return yes_no(true);
+        return yes_no(!(write & literal(first)));
     }
     apart(first, other)
 }

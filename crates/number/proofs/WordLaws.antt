@@ -3,7 +3,7 @@ use mathlib.Core.Path.{_≡_, refl, sym, ap, _∙_}
 use Prim.Native.Nat.{ℕ, zero, suc, _+_, _-_, _*_, _/_, _%_, _^_, _≤_, _<_, suc-le-suc}
 use native.Mathlib.Omega.{arith}
 use native.Mathlib.Nat.{add-zero, zero-add, add-suc, suc-add, pow-suc, mul-comm, mul-assoc}
-use lib.Bits.{bitAnd, bitOr, or-mod, or-shr, and-block, and-mask, and-high, and-zero-l}
+use lib.Bits.{bitAnd, bitOr, or-mod, or-shr, and-block, and-mask, and-zero-l}
 use lib.Pow.{mod-pow-add, ones-split, ones-lt, high}
 use Rattle.number.specs.Little.{byteOf, word}
 use Rattle.number.specs.Parts.{oddBytes}
@@ -48,10 +48,6 @@ word-and f c b h (suc w) k q p =
     let x : f q + 256 * word f (suc q) w ≡ word f (suc q) w * 256 + f q = omega arith in
     let y : c + 256 * r ≡ r * 256 + c = omega arith in
     rw (suc-add w k, x, y, e, word-and f c b h w k (suc q) (suc p)) (omega arith)
-
--- all bits of a byte but the lowest
-pub and-even : (b : ℕ) → b < 256 → bitAnd b 254 ≡ b / 2 * 2
-and-even b h = and-high b 7 1 ∙ omega arith
 
 -- an or takes each byte apart
 pub byteOf-or : (a b i : ℕ) → byteOf (bitOr a b) i ≡ bitOr (byteOf a i) (byteOf b i)

@@ -23,8 +23,6 @@ pub use origins_questions::initialised;
 pub use origins_questions::next;
 pub use origins_questions::valid;
 pub use origins_record::begin;
-pub use origins_record::record;
-pub use origins_record::record_written;
 pub use origins_written::written;
 
 // Any call of the plain form.

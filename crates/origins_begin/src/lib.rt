@@ -12,9 +12,10 @@ use monitor_base::Checked;
 use monitor_stamp::stamp;
 use origins_cells::set_origin;
 use origins_record_check::check;
+use plain::Beginning;
 
-// Each of its bytes counts as written, or none. Its origin, in the cell of its base, is what the counter stands at. The number alone: an answer
-// and a counter in memory would cost more than the check of the counter.
+// Its origin, in the cell of its base, is what the counter stands at, however it begins. The number alone: an answer and a counter in memory would
+// cost more than the check of the counter.
 pub fn begin(
     map: Map,
     heap: &mut [u8],
@@ -25,11 +26,11 @@ pub fn begin(
     counter: u64,
     base: Address,
     len: u32,
-    written: bool,
+    how: Beginning,
 ) -> u32
     ensures { λ r. ⌜ _≡_ {A = State × calls.Answer}
         (lent (now (heap .exit)) (now (primary .exit)) (now (secondary .exit)) (now («heap_cells» .exit)) (now («stack_cells» .exit)) (counted r counter), calls.refusal r)
-        (call map (plain (calls.begin written (base .0) len))
+        (call map (plain (calls.begin how (base .0) len))
         (lent (now (heap .entry)) (now (primary .entry)) (now (secondary .entry)) (now («heap_cells» .entry)) (now («stack_cells» .entry)) counter))
         × (r ≡ 0 → counter ≤ 4294967295) ⌝ }
 {
@@ -43,11 +44,12 @@ pub fn begin(
         counter,
         base,
         len,
+        how,
     );
     if number != 0 {
         return number;
     }
-    stamp(heap, primary, secondary, place, len, written);
+    stamp(heap, primary, secondary, place, len, how);
     set_origin(heap_cells, stack_cells, place, counter as u32);
     0
 }

@@ -6,9 +6,10 @@ ghost use Rattle.plain.specs.Call as calls;
 ghost use Rattle.origins_list.specs.Call.{plain, point, copy, live};
 ghost use Rattle.origins_base.specs.Answers.{lent};
 ghost use Rattle.origins_base.specs.Calls.{call};
-ghost use Rattle.monitor_c_lent.specs.Lent.{mapOf};
+ghost use Rattle.monitor_c_lent.specs.Lent.{mapOf, beginningOf};
 ghost use Rattle.origins_c_lent.specs.Lent.{left};
 use map::Address;
+use monitor_c_lent::beginning;
 use monitor_c_lent::map_of;
 use monitor_c_lent::told;
 use origins_c_lent::counted;
@@ -39,7 +40,7 @@ pub extern "C" fn block_monitor_origins_clear(
     )
 }
 
-// Both ways to record, by whether the bytes count as written: one function that is exported costs less than two that share one.
+// Every way to record, by its number: one function that is exported costs less than three that share one.
 #[no_mangle]
 pub extern "C" fn block_monitor_origins_begin(
     map: &[u32; 4],
@@ -50,12 +51,12 @@ pub extern "C" fn block_monitor_origins_begin(
     stack_cells: &mut [u8],
     base: u32,
     length: u32,
-    written: bool,
+    how: u8,
     counter: &mut u64,
     fields: &mut [u32; 4],
 ) -> u32
     ensures { λ r. ⌜ left r (now (fields .exit)) (now (heap .exit)) (now (primary .exit)) (now (secondary .exit)) (now («heap_cells» .exit)) (now («stack_cells» .exit)) (now (counter .exit))
-        ≡ call (mapOf (now (map .entry))) (plain (calls.begin written base length)) (lent (now (heap .entry)) (now (primary .entry)) (now (secondary .entry)) (now («heap_cells» .entry)) (now («stack_cells» .entry)) (now (counter .entry))) ⌝ }
+        ≡ call (mapOf (now (map .entry))) (plain (calls.begin (beginningOf how) base length)) (lent (now (heap .entry)) (now (primary .entry)) (now (secondary .entry)) (now («heap_cells» .entry)) (now («stack_cells» .entry)) (now (counter .entry))) ⌝ }
 {
     counted(
         origins::begin(
@@ -68,7 +69,7 @@ pub extern "C" fn block_monitor_origins_begin(
             *counter,
             Address(base),
             length,
-            written,
+            beginning(how),
         ),
         counter,
         fields,
@@ -161,8 +162,9 @@ pub extern "C" fn block_monitor_origins_ask(
     )
 }
 
+// Valid, where the bytes are to be written, and valid_read: one function, for the same reason.
 #[no_mangle]
-pub extern "C" fn block_monitor_origins_valid(
+pub extern "C" fn block_monitor_origins_access(
     map: &[u32; 4],
     heap: &[u8],
     primary: &[u8],
@@ -172,10 +174,11 @@ pub extern "C" fn block_monitor_origins_valid(
     address: u32,
     n: u32,
     from: u32,
+    write: bool,
     fields: &mut [u32; 4],
 ) -> u32
     ensures { λ r. ⌜ ((k : ℕ) → left r (now (fields .exit)) (now (heap .entry)) (now (primary .entry)) (now (secondary .entry)) (now («heap_cells» .entry)) (now («stack_cells» .entry)) k
-        ≡ call (mapOf (now (map .entry))) (plain (calls.valid address n from)) (lent (now (heap .entry)) (now (primary .entry)) (now (secondary .entry)) (now («heap_cells» .entry)) (now («stack_cells» .entry)) k)) ⌝ }
+        ≡ call (mapOf (now (map .entry))) (plain (calls.valid write address n from)) (lent (now (heap .entry)) (now (primary .entry)) (now (secondary .entry)) (now («heap_cells» .entry)) (now («stack_cells» .entry)) k)) ⌝ }
 {
     told(
         origins_c_lent::valid(
@@ -188,6 +191,7 @@ pub extern "C" fn block_monitor_origins_valid(
             address,
             n,
             from,
+            write,
         ),
         fields,
     )

@@ -24,7 +24,7 @@ pub fn counted(r: Counted, counter: &mut u64, fields: &mut [u32]) -> u32
     told(r.answer, fields)
 }
 
-// Whether n bytes from an address on lie in the block of another.
+// Whether n bytes from an address on lie in the block of another, and, where the flag is set, may be written.
 pub fn valid(
     map: &[u32; 4],
     heap: &[u8],
@@ -35,9 +35,10 @@ pub fn valid(
     address: u32,
     n: u32,
     from: u32,
+    write: bool,
 ) -> Answer
     ensures { λ r. ⌜ ((k : ℕ) → outcomeAt k r (now (heap .entry)) (now (primary .entry)) (now (secondary .entry)) (now («heap_cells» .entry)) (now («stack_cells» .entry))
-        ≡ call (mapOf (now (map .entry))) (plain (calls.valid address n from))
+        ≡ call (mapOf (now (map .entry))) (plain (calls.valid write address n from))
         (lent (now (heap .entry)) (now (primary .entry)) (now (secondary .entry)) (now («heap_cells» .entry)) (now («stack_cells» .entry)) k)) ⌝ }
 {
     origins_questions::valid(
@@ -50,6 +51,7 @@ pub fn valid(
         Address(address),
         n,
         Address(from),
+        write,
     )
 }
 

@@ -1,6 +1,6 @@
 -- The cells of an address are those of where it lies. Assumes nothing.
 use mathlib.Core.Path.{_≡_, refl, sym, ap, _∙_}
-use mathlib.Core.Bool.{true, false}
+use mathlib.Core.Bool.{Bool, true, false}
 use Prim.Native.Nat.{ℕ, _+_, _*_, _-_, _%_, _≤_, _<_}
 use native.Mathlib.Omega.{arith}
 use native.Mathlib.Nat.{add-sub-cancel-left}
@@ -87,22 +87,22 @@ module _ (m : Map) (s : Shadows) (x : Cells) (ok : goodMap m ≡ true) (fit : le
   read l = readingAt l (s .0) (s .1 .0) (s .1 .1)
 
   -- what a block that is read in an area begins with lies in that area, and has a cell there
-  pub heap-base : (p b l o w : ℕ) → heapReading 4 8 (length (s .0)) (at (s .0)) p ≡ block b l o w
+  pub heap-base : (p b l o w : ℕ) (k : Bool) → heapReading 4 8 (length (s .0)) (at (s .0)) p ≡ block b l o w k
       → (within (m .«heap_start») (m .«heap_size») (m .«heap_start» + b) ≡ true) × (2 * b < length (x .0))
-  heap-base p b l o w e =
-      let t = heap.reading-told 4 8 (length (s .0)) (at (s .0)) p b l o w e in
-      let k = heap-lengths m s ok fit in
-      (true-within (m .«heap_start») (m .«heap_size») (m .«heap_start» + b) (omega arith) (omega (arith, t .fits, t .some, k .0)), omega (arith, t .fits, t .some, k .0, lengths .0))
+  heap-base p b l o w k e =
+      let t = heap.reading-told 4 8 (length (s .0)) (at (s .0)) p b l o w k e in
+      let n = heap-lengths m s ok fit in
+      (true-within (m .«heap_start») (m .«heap_size») (m .«heap_start» + b) (omega arith) (omega (arith, t .fits, t .some, n .0)), omega (arith, t .fits, t .some, n .0, lengths .0))
 
-  pub stack-base : (p b l o w : ℕ) → stackReading (length (s .1 .0)) (at (s .1 .0)) (at (s .1 .1)) p ≡ block b l o w
+  pub stack-base : (p b l o w : ℕ) (k : Bool) → stackReading (length (s .1 .0)) (at (s .1 .0)) (at (s .1 .1)) p ≡ block b l o w k
       → (within (m .«heap_start») (m .«heap_size») (m .«stack_start» + b) ≡ false) × (2 * b < length (x .1))
-  stack-base p b l o w e =
-      let t = stack.reading-told (length (s .1 .0)) (at (s .1 .0)) (at (s .1 .1)) p b l o w e in
-      let k = stack-lengths m s ok fit in (
+  stack-base p b l o w k e =
+      let t = stack.reading-told (length (s .1 .0)) (at (s .1 .0)) (at (s .1 .1)) p b l o w k e in
+      let n = stack-lengths m s ok fit in (
         false-of (within (m .«heap_start») (m .«heap_size») (m .«stack_start» + b)) (λ h.
             let u = within-true (m .«heap_start») (m .«heap_size») (m .«stack_start» + b) h in
-            good .noShare (omega (arith, u, t .fits, t .some, k .0)) (omega (arith, u))),
-        omega (arith, t .fits, t .some, k .0, lengths .1),
+            good .noShare (omega (arith, u, t .fits, t .some, n .0)) (omega (arith, u))),
+        omega (arith, t .fits, t .some, n .0, lengths .1),
       )
 
   pub origin-at : (a : ℕ) (l : Located) → Lies m a l → originRead (cellOps m) x (readAny (mapRules m) (shadowOps m) s a) ≡ originAt l (read l) x
@@ -111,11 +111,11 @@ module _ (m : Map) (s : Shadows) (x : Cells) (ok : goodMap m ≡ true) (fit : le
       go : (r : Reading) → read (Heap p) ≡ r → originRead (cellOps m) x (readingUp (m .«heap_start») r) ≡ originIn (x .0) r
       go nothing q = refl
       go damaged q = refl
-      go (block b l o w) q = rw (heap-base (p .0) b l o w q .0, add-sub-cancel-left (m .«heap_start») b)
+      go (block b l o w k) q = rw (heap-base (p .0) b l o w k q .0, add-sub-cancel-left (m .«heap_start») b)
   origin-at a (Stack p) e = ap (originRead (cellOps m) x) (read-stack m s ok fit a (p .0) (e .0) (e .1) .0) ∙ go (read (Stack p)) refl
     where
       go : (r : Reading) → read (Stack p) ≡ r → originRead (cellOps m) x (readingUp (m .«stack_start») r) ≡ originIn (x .1) r
       go nothing q = refl
       go damaged q = refl
-      go (block b l o w) q = rw (stack-base (p .0) b l o w q .0, add-sub-cancel-left (m .«stack_start») b)
+      go (block b l o w k) q = rw (stack-base (p .0) b l o w k q .0, add-sub-cancel-left (m .«stack_start») b)
   origin-at a Outside e = ap (originRead (cellOps m) x) (read-out m s a e .0)

@@ -45,13 +45,13 @@ module _ (m : Map) (s : Shadows) (y : Cells) (k : ℕ) where
     pub call-other : (c : base.Call) → takesOrigin (plain c) ≡ false
         → call m (plain c) (stateOf s y k) ≡ unless (first c) (stateOf s y k) (stateOf (after c) (cellsOf c) k, told c)
     unfolding call
-    call-other (begin w b l) n = absurd (true≢false n)
+    call-other (begin h b l) n = absurd (true≢false n)
     call-other clear n = rw fit
     call-other (free zero) n = rw fit
     call-other (free (suc b)) n = rw fit
     call-other (written a i) n = rw fit
     call-other (ask a) n = rw fit
-    call-other (valid a i from) n = rw fit
+    call-other (valid w a i from) n = rw fit
     call-other (initialised a i) n = rw fit
     call-other (next a) n = rw fit
     call-other audit n = rw fit

@@ -93,13 +93,13 @@ module _ (m : Map) (s : Shadows) (x : Cells) (ok : goodMap m ≡ true) (fit : le
       go : (r : Reading) → read (Heap p) ≡ r → BaseAt (Heap p) r x
       go nothing q = tt
       go damaged q = tt
-      go (block b l o w) q = let h = cells-at-heap m s x ok fit cells 0 0 (omega arith) in (heap-base m s x ok fit cells (p .0) b l o w q .1, h .1, h .2)
+      go (block b l o w k) q = let h = cells-at-heap m s x ok fit cells 0 0 (omega arith) in (heap-base m s x ok fit cells (p .0) b l o w k q .1, h .1, h .2)
   base-at a (Stack p) e = go (read (Stack p)) refl
     where
       go : (r : Reading) → read (Stack p) ≡ r → BaseAt (Stack p) r x
       go nothing q = tt
       go damaged q = tt
-      go (block b l o w) q = let h = cells-at-stack m s x ok fit cells 0 0 (omega arith) in (stack-base m s x ok fit cells (p .0) b l o w q .1, h .1, h .2)
+      go (block b l o w k) q = let h = cells-at-stack m s x ok fit cells 0 0 (omega arith) in (stack-base m s x ok fit cells (p .0) b l o w k q .1, h .1, h .2)
   base-at a Outside e = tt
 
   -- its origin is that of the block that holds the address

@@ -44,7 +44,7 @@ zeroedAt Outside l x = x
 -- the origin in the cell of the base of the block that a reading by positions gives, 0 where it gives none
 abbrev pub originIn : (cells : List ℕ) → Reading → ℕ
 originIn h nothing = 0
-originIn h (block b l o w) = halfAt h (originPlace b)
+originIn h (block b l o w k) = halfAt h (originPlace b)
 originIn h damaged = 0
 
 -- of the reading of where an address lies

@@ -26,7 +26,7 @@ use Rattle.origins_laws.specs.CellsAt.{CellAt}
 -- there is a cell for the base of the block that a reading by positions gives
 abbrev pub BaseIn : (cells : List ℕ) → Reading → Type 0
 BaseIn h nothing = Unit {0}
-BaseIn h (block b l o w) = (2 * b < length h) × (length h % 8 ≡ 0) × (length h ≤ 262144)
+BaseIn h (block b l o w k) = (2 * b < length h) × (length h % 8 ≡ 0) × (length h ≤ 262144)
 BaseIn h damaged = Unit {0}
 
 -- of the reading of where an address lies

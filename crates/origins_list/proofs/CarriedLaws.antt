@@ -47,12 +47,12 @@ first-8 (r ∷ rs) h = go (r .1) (first-8 rs (h .1))
 
 listed-8 : (R : Rules) (c : Call) (x : OriginList) → No8 (byOrigins R c x)
 listed-8 R (plain clear) x = tt
-listed-8 R (plain (begin w b l)) x = (omega arith, (omega arith, (omega arith, (omega arith, (omega arith, (omega arith, tt))))))
+listed-8 R (plain (begin h b l)) x = (omega arith, (omega arith, (omega arith, (omega arith, (omega arith, (omega arith, tt))))))
 listed-8 R (plain (free zero)) x = tt
 listed-8 R (plain (free (suc b))) x = (omega arith, (omega arith, tt))
-listed-8 R (plain (written a n)) x = (omega arith, (omega arith, (omega arith, tt)))
+listed-8 R (plain (written a n)) x = (omega arith, (omega arith, (omega arith, (omega arith, tt))))
 listed-8 R (plain (ask a)) x = (omega arith, (omega arith, tt))
-listed-8 R (plain (valid a n from)) x = (omega arith, tt)
+listed-8 R (plain (valid w a n from)) x = (omega arith, tt)
 listed-8 R (plain (initialised a n)) x = (omega arith, tt)
 listed-8 R (plain (next a)) x = (omega arith, tt)
 listed-8 R (plain audit) x = tt

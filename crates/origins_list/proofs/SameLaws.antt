@@ -11,14 +11,15 @@ use lib.Dec.{eqb}
 use lib.ListN.{length-replicate}
 use borrow.Author.Tests.{eqb-true, eqb-false}
 use Rattle.number.proofs.TestLaws.{Test, is-true, is-false, test, and-true, or-false, not-both}
-use Rattle.plain.specs.Block.{Block, len, begun, contains, holds, hasBase}
+use Rattle.plain.specs.declared.Beginning.{Beginning}
+use Rattle.plain.specs.Block.{Block, len, startsWritten, startsLiteral, begun, contains, holds, hasBase}
 use Rattle.plain.specs.Blocks.{find, any}
 use Rattle.plain.specs.Rules.{Rules, Placed, Sound, meets}
 use Rattle.plain.specs.Reading.{Reading, nothing, block, says, lookup}
 use Rattle.plain.specs.Ops.{Ops, readAny}
 use Rattle.plain.specs.Images.{Images}
 use Rattle.plain.specs.Call as base
-use Rattle.plain.specs.Call.{clear, begin, free, written, ask, valid, initialised, next, audit, Answer, number, refusal, done, yesNo, firstOf, unless, byRules}
+use Rattle.plain.specs.Call.{clear, begin, free, written, ask, valid, initialised, next, audit, Answer, number, refusal, done, yesNo, firstOf, unless, allows, byRules}
 use Rattle.plain.specs.PlainList.{byList, listAfter, listAnswer, plainStep}
 use Rattle.plain.specs.ShadowCalls.{isDamaged, inOne, lengthOf, byShadows, shadowsAfter, shadowAnswer, shadowStep}
 use Rattle.plain.proofs.FindLaws.{find-facts}
@@ -122,57 +123,60 @@ module _ {S C : Type 0} (R : Rules) (G : Sound R) (O : Ops S) (image : List Bloc
             long none e = absurd (let z : _≡_ {A = ℕ} 0 1 = cc in omega arith)
             long (some b) e = let z : len b ≡ len d = cc in z
 
-    begin-same : (w : Bool) (b l : ℕ) → stateStep R O X (plain (begin w b l)) (view x) ≡ both (originStep R (plain (begin w b l)) x)
+    begin-same : (h : Beginning) (b l : ℕ) → stateStep R O X (plain (begin h b l)) (view x) ≡ both (originStep R (plain (begin h b l)) x)
     unfolding stateStep originStep
-    begin-same w b l =
-        go (test (eqb l 0)) (test (R .fits b l)) (test (R .aligned b)) (test (isCell b)) (test (any (meets R b l) (x .blocks))) (test (isOrigin (x .counter)))
+    begin-same h b l =
+        go (test (eqb l 0)) (test (allows R h b l)) (test (R .aligned b)) (test (isCell b)) (test (any (meets R b l) (x .blocks))) (test (isOrigin (x .counter)))
       where
         now : OriginList
-        now = originsAfter (plain (begin w b l)) x
+        now = originsAfter (plain (begin h b l)) x
 
         then : State S C
-        then = stateAfter R O X (plain (begin w b l)) (view x)
+        then = stateAfter R O X (plain (begin h b l)) (view x)
 
         some : eqb l 0 ≡ false → 1 ≤ l
         some n = let z = eqb-false l 0 n in omega arith
 
-        go : Test (eqb l 0) → Test (R .fits b l) → Test (R .aligned b) → Test (isCell b) → Test (any (meets R b l) (x .blocks)) → Test (isOrigin (x .counter))
-            → unless (cond (eqb l 0) 3 (cond (not (R .fits b l)) 4 (cond (not (R .aligned b)) 5 (cond (not (isCell b)) 5
+        room : allows R h b l ≡ true → R .fits b l ≡ true
+        room f = and-true (R .fits b l) (not (startsLiteral h && R .heap b)) f .0
+
+        go : Test (eqb l 0) → Test (allows R h b l) → Test (R .aligned b) → Test (isCell b) → Test (any (meets R b l) (x .blocks)) → Test (isOrigin (x .counter))
+            → unless (cond (eqb l 0) 3 (cond (not (allows R h b l)) 4 (cond (not (R .aligned b)) 5 (cond (not (isCell b)) 5
             (cond (not (O .vacant (image (x .blocks)) b l)) 6 (cond (not (isOrigin (x .counter))) 12 0)))))) (view x) (then, done)
-            ≡ both (unless (cond (eqb l 0) 3 (cond (not (R .fits b l)) 4 (cond (not (R .aligned b)) 5 (cond (not (isCell b)) 5
+            ≡ both (unless (cond (eqb l 0) 3 (cond (not (allows R h b l)) 4 (cond (not (R .aligned b)) 5 (cond (not (isCell b)) 5
             (cond (any (meets R b l) (x .blocks)) 6 (cond (not (isOrigin (x .counter))) 12 0)))))) x (now, done))
         go (is-true n) f a c m k = rw n
         go (is-false n) (is-false f) a c m k = rw (n, f)
         go (is-false n) (is-true f) (is-false a) c m k = rw (n, f, a)
         go (is-false n) (is-true f) (is-true a) (is-false c) m k = rw (n, f, a, c)
         go (is-false n) (is-true f) (is-true a) (is-true c) (is-true m) k =
-            rw (n, f, a, c, I .image-vacant (x .blocks) (g .placed) b l (some n) f a, m)
+            rw (n, f, a, c, I .image-vacant (x .blocks) (g .placed) b l (some n) (room f) a, m)
         go (is-false n) (is-true f) (is-true a) (is-true c) (is-false m) (is-false k) =
-            rw (n, f, a, c, I .image-vacant (x .blocks) (g .placed) b l (some n) f a, m, k)
+            rw (n, f, a, c, I .image-vacant (x .blocks) (g .placed) b l (some n) (room f) a, m, k)
         go (is-false n) (is-true f) (is-true a) (is-true c) (is-false m) (is-true k) =
             let o = some n in
-            let ln = length-replicate l w in
+            let ln = length-replicate l (startsWritten h) in
             rw (
               n,
               f,
               a,
               c,
-              I .image-vacant (x .blocks) (g .placed) b l o f a,
+              I .image-vacant (x .blocks) (g .placed) b l o (room f) a,
               m,
               k,
-              I .image-stamp (x .blocks) (g .placed) (begun w b l) (rw ln o) (rw ln f) a (rw ln m),
-              J .image-setOrigin (x .origin) (x .referent) b (x .counter) (base-inside R G b l o f),
+              I .image-stamp (x .blocks) (g .placed) (begun h b l) (rw ln o) (rw ln (room f)) a (rw ln m),
+              J .image-setOrigin (x .origin) (x .referent) b (x .counter) (base-inside R G b l o (room f)),
               aligned-cell b (eqb-true (b % 4) 0 c),
             )
 
     plain-same : (c : base.Call) → stateStep R O X (plain c) (view x) ≡ both (originStep R (plain c) x)
     plain-same clear = clear-same
-    plain-same (begin w b l) = begin-same w b l
+    plain-same (begin h b l) = begin-same h b l
     plain-same (free zero) = plainly (free zero) refl refl (λ z. refl)
     plain-same (free (suc y)) = plainly (free (suc y)) refl refl (free-cells y)
     plain-same (written a n) = plainly (written a n) refl refl (λ z. refl)
     plain-same (ask a) = plainly (ask a) refl refl (λ z. refl)
-    plain-same (valid a n from) = plainly (valid a n from) refl refl (λ z. refl)
+    plain-same (valid w a n from) = plainly (valid w a n from) refl refl (λ z. refl)
     plain-same (initialised a n) = plainly (initialised a n) refl refl (λ z. refl)
     plain-same (next a) = plainly (next a) refl refl (λ z. refl)
     plain-same audit = plainly audit refl refl (λ z. refl)

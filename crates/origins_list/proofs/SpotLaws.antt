@@ -9,7 +9,8 @@ use lib.ListN.{length-set, length-replicate}
 use lib.Dec.{leb, ltb, eqb}
 use borrow.Author.Tests.{eq-eqb, eqb-true}
 use Rattle.number.proofs.TestLaws.{Test, is-true, is-false, test, same-test}
-use Rattle.plain.specs.Block.{Block, len, begun, contains, holds, hasBase, markBlock}
+use Rattle.plain.specs.declared.Beginning.{Beginning}
+use Rattle.plain.specs.Block.{Block, len, startsWritten, begun, contains, holds, hasBase, markBlock}
 use Rattle.plain.specs.Blocks.{find, found, any, insert, remove, markOne, markAll}
 use Rattle.plain.specs.Rules.{Rules, Placed, Sound, meets}
 use Rattle.plain.specs.Layer.{layer}
@@ -86,21 +87,21 @@ module _ (R : Rules) (G : Sound R) where
 
   -- ---- a block joins, a block goes
 
-  pub spot-insert : (w : Bool) (b l : ℕ) (bs : List Block) → Placed R 0 bs → Joins R b l bs → (a : ℕ)
-      → spot (insert (begun w b l) bs) a ≡ cond (spans b l a) (taken b l) (spot bs a)
+  pub spot-insert : (h : Beginning) (b l : ℕ) (bs : List Block) → Placed R 0 bs → Joins R h b l bs → (a : ℕ)
+      → spot (insert (begun h b l) bs) a ≡ cond (spans b l a) (taken b l) (spot bs a)
   unfolding layer
-  spot-insert w b l bs P j a =
-      layered (insert (begun w b l) bs) a
-      ∙ layer-insert R G covers (λ x. x) foot a stands vacant (begun w b l) bs 0
+  spot-insert h b l bs P j a =
+      layered (insert (begun h b l) bs) a
+      ∙ layer-insert R G covers (λ x. x) foot a stands vacant (begun h b l) bs 0
       (record { some = rw ln (j .some); fits = rw ln (j .fits); aligned = j .aligned; room = omega arith }) P (rw ln (j .alone))
       ∙ rw (ln, ← layered bs a)
     where
-      ln : len (begun w b l) ≡ l
-      ln = length-replicate l w
+      ln : len (begun h b l) ≡ l
+      ln = length-replicate l (startsWritten h)
 
   -- where no footprint meets that of a block, no block stands at its addresses
-  pub spot-alone : (b l : ℕ) (bs : List Block) → Placed R 0 bs → Joins R b l bs → (a : ℕ) → b ≤ a → a < b + l → spot bs a ≡ vacant
-  spot-alone b l bs P j a x y =
+  pub spot-alone : (h : Beginning) (b l : ℕ) (bs : List Block) → Placed R 0 bs → Joins R h b l bs → (a : ℕ) → b ≤ a → a < b + l → spot bs a ≡ vacant
+  spot-alone h b l bs P j a x y =
       layered bs a
       ∙ layer-apart R G covers (λ x. x) foot a stands vacant b l bs 0 P (j .alone) (omega (arith, x, G .low-base b l (j .fits))) (omega (arith, y, G .high-end b l))
 

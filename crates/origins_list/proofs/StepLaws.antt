@@ -2,48 +2,49 @@
 use mathlib.Core.Path.{_≡_, refl, sym, ap, _∙_, fun-ext}
 use mathlib.Core.Logic.{_≢_}
 use mathlib.Core.Bool.{Bool, true, false, cond, not, _&&_, _||_}
-use mathlib.Core.List.{List, [], _∷_, _++_}
+use mathlib.Core.List.{List, _∷_}
 use mathlib.Core.Option.{Option, none, some}
 use Prim.Native.Nat.{ℕ, zero, suc, _+_, _%_, _≤_, _<_}
 use native.Mathlib.Omega.{arith}
 use lib.Dec.{leb, eqb}
 use borrow.Author.Tests.{ne-eqb, leb-true, eqb-true, eqb-false}
 use Rattle.number.proofs.TestLaws.{Test, is-true, is-false, test, and-true, or-false, not-both}
-use Rattle.plain.specs.Block.{Block, len, begun, contains, holds, hasBase}
+use Rattle.plain.specs.declared.Beginning.{Beginning}
+use Rattle.plain.specs.Block.{Block, len, startsLiteral, contains, holds, hasBase}
 use Rattle.plain.specs.Blocks.{find, any, remove, markAll}
 use Rattle.plain.specs.Rules.{Rules, Placed, Sound, meets}
 use Rattle.plain.specs.Call as base
-use Rattle.plain.specs.Call.{clear, begin, free, written, ask, valid, initialised, next, audit, number, firstOf, unless, byRules}
-use Rattle.plain.specs.PlainList.{byList, listAfter, plainStep}
+use Rattle.plain.specs.Call.{clear, begin, free, written, ask, valid, initialised, next, audit, number, firstOf, unless, allows}
 use Rattle.plain.proofs.LayerLaws.{ownOf}
 use Rattle.plain.proofs.ListLaws.{find-has}
 use Rattle.plain.proofs.KeptLaws.{remove-placed, marks-placed}
-use Rattle.plain.proofs.RunLaws.{Joins, keep}
+use Rattle.plain.proofs.RunLaws.{Joins, begun-proper, keep-begin}
 use Rattle.plain.proofs.RunLaws as lists
 use Rattle.origins_list.specs.Call.{Call, plain, point, copy, live, isCell, isOrigin, leaves, roleOf}
 use Rattle.origins_list.specs.Cells.{Held, empty, put, cut}
 use Rattle.origins_list.specs.OriginList.{OriginList, originFound, originHeld, canPoint, byOrigins, originsAfter, originAnswer, originStep}
 use Rattle.origins_list.specs.History.{History}
 use Rattle.origins_list.proofs.SpotLaws.{Spot, vacant, taken, spot, spans, hasFour, without, There, there, any-four, spot-marks, spot-insert, spot-alone, spot-remove, spot-base}
-use Rattle.origins_list.proofs.KeepLaws.{Whole, Keeps, spans-true, keep-none, keep-put, keep-begin, keep-free}
+use Rattle.origins_list.proofs.KeepLaws.{Whole, Keeps, spans-true, keep-none, keep-put, keep-free}
+use Rattle.origins_list.proofs.KeepLaws as cells
 use Rattle.origins_list.proofs.HistoryLaws.{Tells}
 use Rattle.origins_list.proofs.ToldLaws.{originThere, tells-refused, tells-pointer, tells-point, tells-copy, tells-clear, tells-plain, tells-begin, tells-free}
 
 -- ---- what an accepted call says
 
-pub record Begins (R : Rules) (b l : ℕ) (x : OriginList) : Type 0 where
-  pub joins : Joins R b l (x .blocks)
+pub record Begins (R : Rules) (h : Beginning) (b l : ℕ) (x : OriginList) : Type 0 where
+  pub joins : Joins R h b l (x .blocks)
   pub at-cell : b % 4 ≡ 0
   pub room : x .counter ≤ 4294967295
 
-pub begins : (R : Rules) (w : Bool) (b l : ℕ) (x : OriginList) → firstOf (byOrigins R (plain (begin w b l)) x) ≡ 0 → Begins R b l x
-begins R w b l x =
-    go (test (eqb l 0)) (test (R .fits b l)) (test (R .aligned b)) (test (isCell b)) (test (any (meets R b l) (x .blocks))) (test (isOrigin (x .counter)))
+pub begins : (R : Rules) (h : Beginning) (b l : ℕ) (x : OriginList) → firstOf (byOrigins R (plain (begin h b l)) x) ≡ 0 → Begins R h b l x
+begins R h b l x =
+    go (test (eqb l 0)) (test (allows R h b l)) (test (R .aligned b)) (test (isCell b)) (test (any (meets R b l) (x .blocks))) (test (isOrigin (x .counter)))
   where
-    go : Test (eqb l 0) → Test (R .fits b l) → Test (R .aligned b) → Test (isCell b) → Test (any (meets R b l) (x .blocks)) → Test (isOrigin (x .counter))
-        → _≡_ {A = ℕ} (cond (eqb l 0) 3 (cond (not (R .fits b l)) 4 (cond (not (R .aligned b)) 5 (cond (not (isCell b)) 5
+    go : Test (eqb l 0) → Test (allows R h b l) → Test (R .aligned b) → Test (isCell b) → Test (any (meets R b l) (x .blocks)) → Test (isOrigin (x .counter))
+        → _≡_ {A = ℕ} (cond (eqb l 0) 3 (cond (not (allows R h b l)) 4 (cond (not (R .aligned b)) 5 (cond (not (isCell b)) 5
         (cond (any (meets R b l) (x .blocks)) 6 (cond (not (isOrigin (x .counter))) 12 0)))))) 0
-        → Begins R b l x
+        → Begins R h b l x
     go (is-true n) f a c m k e = absurd (omega (arith, rw n at e))
     go (is-false n) (is-false f) a c m k e = absurd (omega (arith, rw (n, f) at e))
     go (is-false n) (is-true f) (is-false a) c m k e = absurd (omega (arith, rw (n, f, a) at e))
@@ -52,8 +53,9 @@ begins R w b l x =
     go (is-false n) (is-true f) (is-true a) (is-true c) (is-false m) (is-false k) e = absurd (omega (arith, rw (n, f, a, c, m, k) at e))
     go (is-false n) (is-true f) (is-true a) (is-true c) (is-false m) (is-true k) e =
         let z : l ≢ 0 = eqb-false l 0 n in
+        let t = and-true (R .fits b l) (not (startsLiteral h && R .heap b)) f in
         record {
-          joins = record { some = omega arith; fits = f; aligned = a; alone = m };
+          joins = record { some = omega arith; fits = t .0; aligned = a; alone = m; proper = begun-proper R h b l (t .1) };
           at-cell = eqb-true (b % 4) 0 c;
           room = leb-true (x .counter) 4294967295 (and-true (leb 1 (x .counter)) (leb (x .counter) 4294967295) k .1);
         }
@@ -104,10 +106,6 @@ module _ (R : Rules) (G : Sound R) where
       go vacant e = omega (arith, g .keeps .last)
       go (taken b l) e = g .keeps .based a b l e .2
 
-  placed-after : (c : base.Call) (bs : List Block) → Placed R 0 bs → firstOf (byRules R c ++ byList R c bs) ≡ 0 → Placed R 0 (listAfter c bs)
-  unfolding plainStep
-  placed-after c bs P e = rw e at (keep R G c bs P)
-
   -- ---- a call, and what it leaves
 
   abbrev pub TellsOf : (k : ℕ) → History → OriginList → Type 0
@@ -146,19 +144,15 @@ module _ (R : Rules) (G : Sound R) where
         viewed (plain clear) x (originsAfter (plain clear) x) (λ a. vacant) (λ a. refl) tt (keep-none (x .counter) (g .keeps .last .0) (g .keeps .last .1))
         (λ k o h T. tells-clear k o h s (x .origin) (x .referent) (x .counter) T clear refl)
 
-    after-begin : (w : Bool) (b l : ℕ) → Begins R b l x → After (plain (begin w b l)) x (originsAfter (plain (begin w b l)) x)
-    after-begin w b l j =
-        viewed (plain (begin w b l)) x (originsAfter (plain (begin w b l)) x) (λ a. cond (spans b l a) (taken b l) (s a))
-        (spot-insert R G w b l (x .blocks) (g .placed) (j .joins)) placed
-        (keep-begin s (x .origin) (x .referent) (x .counter) b l W (g .keeps) (j .at-cell) (j .joins .some) (j .room) alone)
-        (λ k o h T. tells-begin k o h s (x .origin) (x .referent) (x .counter) T (begin w b l) b l refl W (g .keeps) (j .at-cell) (j .joins .some) (j .room) alone)
+    after-begin : (how : Beginning) (b l : ℕ) → Begins R how b l x → After (plain (begin how b l)) x (originsAfter (plain (begin how b l)) x)
+    after-begin how b l j =
+        viewed (plain (begin how b l)) x (originsAfter (plain (begin how b l)) x) (λ a. cond (spans b l a) (taken b l) (s a))
+        (spot-insert R G how b l (x .blocks) (g .placed) (j .joins)) (keep-begin R G how b l (x .blocks) (g .placed) (j .joins))
+        (cells.keep-begin s (x .origin) (x .referent) (x .counter) b l W (g .keeps) (j .at-cell) (j .joins .some) (j .room) alone)
+        (λ k o h T. tells-begin k o h s (x .origin) (x .referent) (x .counter) T (begin how b l) b l refl W (g .keeps) (j .at-cell) (j .joins .some) (j .room) alone)
       where
         alone : (a : ℕ) → spans b l a ≡ true → s a ≡ vacant
-        alone a t = let p = spans-true b l a t in spot-alone R G b l (x .blocks) (g .placed) (j .joins) a (p .0) (p .1)
-
-        placed : Placed R 0 (listAfter (begin w b l) (x .blocks))
-        placed = placed-after (begin w b l) (x .blocks) (g .placed)
-            (rw (ne-eqb l 0 (omega (arith, j .joins .some)), j .joins .fits, j .joins .aligned, j .joins .alone))
+        alone a t = let p = spans-true b l a t in spot-alone R G how b l (x .blocks) (g .placed) (j .joins) a (p .0) (p .1)
 
     after-free : (y : ℕ) (d : Block) → find (hasBase (suc y)) (x .blocks) ≡ some d → After (plain (free (suc y))) x (originsAfter (plain (free (suc y))) x)
     after-free y d e =
@@ -178,7 +172,7 @@ module _ (R : Rules) (G : Sound R) where
 
     pub after-plain : (c : base.Call) → firstOf (byOrigins R (plain c) x) ≡ 0 → After (plain c) x (originsAfter (plain c) x)
     after-plain clear e = after-clear
-    after-plain (begin w b l) e = after-begin w b l (begins R w b l x e)
+    after-plain (begin h b l) e = after-begin h b l (begins R h b l x e)
     after-plain (free zero) e = asked (free zero) refl
     after-plain (free (suc y)) e = go (find (hasBase (suc y)) (x .blocks)) refl
       where
@@ -193,7 +187,7 @@ module _ (R : Rules) (G : Sound R) where
         viewed (plain (written a n)) x (marked (markAll a n (x .blocks))) s (λ b. spot-marks n a b (x .blocks)) (marks-placed R n a (x .blocks) 0 (g .placed)) (g .keeps)
         (λ k o h T. tells-plain k o h s (x .origin) (x .referent) (x .counter) T (written a n) refl)
     after-plain (ask a) e = asked (ask a) refl
-    after-plain (valid a n from) e = asked (valid a n from) refl
+    after-plain (valid w a n from) e = asked (valid w a n from) refl
     after-plain (initialised a n) e = asked (initialised a n) refl
     after-plain (next a) e = asked (next a) refl
     after-plain audit e = asked audit refl

@@ -25,8 +25,8 @@ isCell c = eqb (c % 4) 0
 abbrev pub isOrigin : ℕ → Bool
 isOrigin k = leb 1 k && leb k 4294967295
 
--- what a plain call is to cells and origins: clear zeroes all, a recording takes an origin, free of an address other than 0 zeroes the cells of its
--- block, and every other call leaves them
+-- what a plain call is to cells and origins: clear zeroes all, a recording takes an origin, a literal's too, free of an address other than 0 zeroes
+-- the cells of its block, and every other call leaves them
 pub data Role : Type 0 where
   clears : Role
   begins : (base length : ℕ) → Role
@@ -35,12 +35,12 @@ pub data Role : Type 0 where
 
 abbrev pub roleOf : base.Call → Role
 roleOf clear = clears
-roleOf (begin w b l) = begins b l
+roleOf (begin h b l) = begins b l
 roleOf (free zero) = leaves
 roleOf (free (suc x)) = frees (suc x)
 roleOf (written a n) = leaves
 roleOf (ask a) = leaves
-roleOf (valid a n from) = leaves
+roleOf (valid w a n from) = leaves
 roleOf (initialised a n) = leaves
 roleOf (next a) = leaves
 roleOf audit = leaves

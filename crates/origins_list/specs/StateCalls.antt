@@ -21,7 +21,7 @@ pub record State (S C : Type 0) : Type 0 where
 -- the origin of the block that a reading gives, or 0 where there is none: it stands in the cell of the block's base
 abbrev pub originRead : {C : Type 0} → CellOps C → C → Reading → ℕ
 originRead X x nothing = 0
-originRead X x (block b l o m) = X .origin x b
+originRead X x (block b l o m t) = X .origin x b
 originRead X x damaged = 0
 
 -- the counter after an accepted call
@@ -33,7 +33,7 @@ module _ {S C : Type 0} (R : Rules) (O : Ops S) (X : CellOps C) where
   abbrev pub read : State S C → ℕ → Reading
   read x a = readAny R O (x .shadows) a
 
-  -- a pointer can stand there: it is the address of a cell "whose four bytes are" "in one block"
+  -- a pointer can stand there: it is the address of a cell "whose four bytes are" "in one block", which may be a literal
   abbrev pub isPointer : State S C → ℕ → Bool
   isPointer x c = isCell c && inOne 4 (read x c)
 

@@ -29,7 +29,7 @@ pub fn query_step(
 {
     match query {
         Query::Ask(a) => ask(map, heap, primary, secondary, heap_cells, stack_cells, a),
-        Query::Valid(a, n, from) => valid(
+        Query::Valid(write, a, n, from) => valid(
             map,
             heap,
             primary,
@@ -39,6 +39,7 @@ pub fn query_step(
             a,
             n,
             from,
+            write,
         ),
         Query::Initialised(a, n) => initialised(
             map,

@@ -12,7 +12,7 @@ use monitor_base::guard::refusal;
 use origins_base::guard::cells_fit;
 use origins_base::guard::unfit;
 
-// Whether n bytes and the byte at from lie in one block: 1 or 0.
+// Whether n bytes and the byte at from lie in one block, and, where the flag is set, may be written: 1 or 0.
 pub fn valid(
     map: Map,
     heap: &[u8],
@@ -23,15 +23,16 @@ pub fn valid(
     a: Address,
     n: u32,
     from: Address,
+    write: bool,
 ) -> Answer
     ensures { λ r. ⌜ ((k : ℕ) → outcomeAt k r (now (heap .entry)) (now (primary .entry)) (now (secondary .entry)) (now («heap_cells» .entry)) (now («stack_cells» .entry))
-        ≡ call map (plain (base.valid (a .0) n (from .0)))
+        ≡ call map (plain (base.valid write (a .0) n (from .0)))
         (lent (now (heap .entry)) (now (primary .entry)) (now (secondary .entry)) (now («heap_cells» .entry)) (now («stack_cells» .entry)) k)) ⌝ }
 {
     if !cells_fit(map, heap_cells.len(), stack_cells.len()) {
         return refusal(unfit(map));
     }
-    monitor_valid::valid(map, heap, primary, secondary, a, n, from)
+    monitor_valid::valid(map, heap, primary, secondary, a, n, from, write)
 }
 
 // Whether n bytes lie in one block and each is written: 1 or 0.

@@ -1,4 +1,4 @@
-// Records a block in the form with origins, with no byte written or with every byte.
+// Records a block in the form with origins: with no byte written, with every byte, or as a literal.
 ghost use mathlib.Core.Path.{_≡_};
 ghost use Prim.Native.Nat.{_≤_};
 ghost use Rattle.plain.specs.Call as calls;
@@ -11,6 +11,7 @@ use map::Address;
 use map::Map;
 use monitor_base::guard::refusal;
 use origins_base::Counted;
+use plain::Beginning;
 
 // The answer of a number, and the counter, which counts where nothing is refused.
 fn counted(number: u32, counter: u64) -> Counted
@@ -28,7 +29,7 @@ fn counted(number: u32, counter: u64) -> Counted
     }
 }
 
-// The block joins, with no byte written or with every byte.
+// The block joins, and its origin stands in the cell of its base.
 pub fn begin(
     map: Map,
     heap: &mut [u8],
@@ -39,10 +40,10 @@ pub fn begin(
     counter: u64,
     base: Address,
     len: u32,
-    written: bool,
+    how: Beginning,
 ) -> Counted
     ensures { λ r. ⌜ outcome r (now (heap .exit)) (now (primary .exit)) (now (secondary .exit)) (now («heap_cells» .exit)) (now («stack_cells» .exit))
-        ≡ call map (plain (calls.begin written (base .0) len))
+        ≡ call map (plain (calls.begin how (base .0) len))
         (lent (now (heap .entry)) (now (primary .entry)) (now (secondary .entry)) (now («heap_cells» .entry)) (now («stack_cells» .entry)) counter) ⌝ }
 {
     let number = origins_begin::begin(
@@ -55,67 +56,7 @@ pub fn begin(
         counter,
         base,
         len,
-        written,
+        how,
     );
     counted(number, counter)
-}
-
-// The block joins, no byte written.
-pub fn record(
-    map: Map,
-    heap: &mut [u8],
-    primary: &mut [u8],
-    secondary: &mut [u8],
-    heap_cells: &mut [u8],
-    stack_cells: &mut [u8],
-    counter: u64,
-    base: Address,
-    len: u32,
-) -> Counted
-    ensures { λ r. ⌜ outcome r (now (heap .exit)) (now (primary .exit)) (now (secondary .exit)) (now («heap_cells» .exit)) (now («stack_cells» .exit))
-        ≡ call map (plain (calls.record-block (base .0) len))
-        (lent (now (heap .entry)) (now (primary .entry)) (now (secondary .entry)) (now («heap_cells» .entry)) (now («stack_cells» .entry)) counter) ⌝ }
-{
-    begin(
-        map,
-        heap,
-        primary,
-        secondary,
-        heap_cells,
-        stack_cells,
-        counter,
-        base,
-        len,
-        false,
-    )
-}
-
-// The block joins, every byte written.
-pub fn record_written(
-    map: Map,
-    heap: &mut [u8],
-    primary: &mut [u8],
-    secondary: &mut [u8],
-    heap_cells: &mut [u8],
-    stack_cells: &mut [u8],
-    counter: u64,
-    base: Address,
-    len: u32,
-) -> Counted
-    ensures { λ r. ⌜ outcome r (now (heap .exit)) (now (primary .exit)) (now (secondary .exit)) (now («heap_cells» .exit)) (now («stack_cells» .exit))
-        ≡ call map (plain (calls.record-written (base .0) len))
-        (lent (now (heap .entry)) (now (primary .entry)) (now (secondary .entry)) (now («heap_cells» .entry)) (now («stack_cells» .entry)) counter) ⌝ }
-{
-    begin(
-        map,
-        heap,
-        primary,
-        secondary,
-        heap_cells,
-        stack_cells,
-        counter,
-        base,
-        len,
-        true,
-    )
 }

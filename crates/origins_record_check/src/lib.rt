@@ -13,18 +13,25 @@ use map::Map;
 use monitor_base::Checked;
 use origins_base::guard::cells_fit;
 use origins_base::guard::unfit;
+use plain::Beginning;
 
 // The number where the cells fit, by that of the plain form. 5 of the base stands between 5 and 6 of the plain form, 12 comes last.
 fn decided(number: u32, base: Address, counter: u64) -> u32
     ensures { λ r. ⌜ r ≡ decidedBy number (base .0) counter ⌝ }
 {
-    if ((number == 0) | (number == 6)) & (base.0 % 4 != 0) {
-        return 5;
+    if base.0 % 4 != 0 {
+        if (number == 0) | (number == 6) {
+            return 5;
+        }
+        return number;
     }
-    if (number == 0) & !((1 <= counter) & (counter <= 4294967295)) {
-        return 12;
+    if number != 0 {
+        return number;
     }
-    number
+    if (1 <= counter) & (counter <= 4294967295) {
+        return 0;
+    }
+    12
 }
 
 // Where the number is 0, the block can be stamped at the place, its origin fits the cell there, and the counter is that origin.
@@ -38,10 +45,11 @@ pub fn check(
     counter: u64,
     base: Address,
     len: u32,
+    how: Beginning,
 ) -> Checked
-    ensures { λ r. ⌜ (r .number ≡ numberOf map (plain (calls.record-block (base .0) len))
+    ensures { λ r. ⌜ (r .number ≡ numberOf map (plain (calls.begin how (base .0) len))
         (lent (now (heap .entry)) (now (primary .entry)) (now (secondary .entry)) (now («heap_cells» .entry)) (now («stack_cells» .entry)) counter))
-        × (r .number ≡ 0 → (checks.numberOf map (calls.record-block (base .0) len) (now (heap .entry), (now (primary .entry), now (secondary .entry))) ≡ 0)
+        × (r .number ≡ 0 → (checks.numberOf map (calls.begin how (base .0) len) (now (heap .entry), (now (primary .entry), now (secondary .entry))) ≡ 0)
         × Lies map (base .0) (r .place)
         × checks.Stampable (r .place) len (now (heap .entry), (now (primary .entry), now (secondary .entry)))
         × CellAt (r .place) (now («heap_cells» .entry), now («stack_cells» .entry)) × (counter ≤ 4294967295)) ⌝ }
@@ -53,6 +61,7 @@ pub fn check(
         secondary,
         base,
         len,
+        how,
     );
     if !cells_fit(map, heap_cells.len(), stack_cells.len()) {
         return Checked {

@@ -10,8 +10,7 @@ use origins_base::Counted;
 use origins_counted::clear;
 use origins_counted::free;
 use origins_counted::written;
-use origins_record::record;
-use origins_record::record_written;
+use origins_record::begin;
 
 pub fn update_step(
     update: Update,
@@ -37,7 +36,7 @@ pub fn update_step(
             stack_cells,
             counter,
         ),
-        Update::Record(base, length) => record(
+        Update::Begin(how, base, length) => begin(
             map,
             heap,
             primary,
@@ -47,17 +46,7 @@ pub fn update_step(
             counter,
             base,
             length,
-        ),
-        Update::RecordWritten(base, length) => record_written(
-            map,
-            heap,
-            primary,
-            secondary,
-            heap_cells,
-            stack_cells,
-            counter,
-            base,
-            length,
+            how,
         ),
         Update::Free(base) => free(
             map,

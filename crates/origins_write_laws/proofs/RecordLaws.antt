@@ -9,9 +9,10 @@ use borrow.Author.Tests.{leb-true, eqb-true, eqb-false, ne-eqb}
 use Rattle.number.proofs.TestLaws.{Test, is-true, is-false, test, and-true}
 use Rattle.map.specs.declared.Map.{Map}
 use Rattle.map.specs.Map.{goodMap}
+use Rattle.plain.specs.declared.Beginning.{Beginning}
 use Rattle.plain.specs.Block.{begun}
 use Rattle.plain.specs.Areas.{mapRules}
-use Rattle.plain.specs.Call.{Answer, begin, record-block, refusal, done, firstOf, unless}
+use Rattle.plain.specs.Call.{Answer, begin, refusal, done, firstOf, unless, allows}
 use Rattle.shadows.specs.Shadows.{Shadows, lengthsFit, shadowOps}
 use Rattle.monitor_base.specs.Locating.{Lies}
 use Rattle.monitor_base.specs.declared.Located.{Located}
@@ -64,46 +65,45 @@ none-of j b k = go (eqb j 0) (eqb j 6) (isCell b) (isOrigin k) refl
 in-area : (x : Located) (l : ℕ) (s : Shadows) → Stampable x l s → x ≡ Outside → ⊥
 in-area x l s t e = rw e at t
 
-module _ (m : Map) (s : Shadows) (y : Cells) (k : ℕ) (b l : ℕ) where
+module _ (m : Map) (s : Shadows) (y : Cells) (k : ℕ) (how : Beginning) (b l : ℕ) where
   abbrev state : State
   state = stateOf s y k
 
-  abbrev first : Bool → ℕ
-  first w = firstOf (refusals m (plain (begin w b l)) state)
+  abbrev first : ℕ
+  first = firstOf (refusals m (plain (begin how b l)) state)
 
-  abbrev after : Bool → State
-  after w = stateOf (shadowOps m .stamp s (begun w b l)) (cellOps m .setOrigin y b k) (suc k)
+  abbrev after : State
+  after = stateOf (shadowOps m .stamp s (begun how b l)) (cellOps m .setOrigin y b k) (suc k)
 
-  is-first : (w : Bool) → call m (plain (begin w b l)) state ≡ unless (first w) state (after w, done)
+  is-first : call m (plain (begin how b l)) state ≡ unless first state (after, done)
   unfolding call
-  is-first w = refl
+  is-first = refl
 
-  -- whether the bytes count as written has no part in the number
-  is-number : (w : Bool) → numberOf m (plain (record-block b l)) state ≡ first w
-  is-number w = ap told (is-first false) ∙ unless-number (first false) state (after false, done) refl
+  is-number : numberOf m (plain (begin how b l)) state ≡ first
+  is-number = ap told is-first ∙ unless-number first state (after, done) refl
 
   -- cells that do not fit
-  pub record-unfit : cellsFit m y ≡ false → (j : ℕ) → j ≡ cond (goodMap m) 2 1 → (j ≡ numberOf m (plain (record-block b l)) state) × (j ≢ 0)
-  record-unfit f j e = (ap told (told-unfit m (plain (record-block b l)) state f j e (refusal j) refl), go (test (goodMap m)))
+  pub record-unfit : cellsFit m y ≡ false → (j : ℕ) → j ≡ cond (goodMap m) 2 1 → (j ≡ numberOf m (plain (begin how b l)) state) × (j ≢ 0)
+  record-unfit f j e = (ap told (told-unfit m (plain (begin how b l)) state f j e (refusal j) refl), go (test (goodMap m)))
     where
       go : Test (goodMap m) → j ≢ 0
       go (is-true g) z = let q : j ≡ 2 = rw g at e in omega arith
       go (is-false g) z = let q : j ≡ 1 = rw g at e in omega arith
 
-  module _ (fit : cellsFit m y ≡ true) (j : ℕ) (e : j ≡ checks.numberOf m (record-block b l) s) where
+  module _ (fit : cellsFit m y ≡ true) (j : ℕ) (e : j ≡ checks.numberOf m (begin how b l) s) where
     -- the number is decided by the plain form's
-    pub record-number : decidedBy j b k ≡ numberOf m (plain (record-block b l)) state
+    pub record-number : decidedBy j b k ≡ numberOf m (plain (begin how b l)) state
     record-number =
-        sym (is-number false
+        sym (is-number
         ∙ rw fit
-        (tests (goodMap m) (lengthsFit m s) (eqb l 0) (mapRules m .fits b l) (mapRules m .aligned b) (isCell b) (shadowOps m .vacant s b l) (isOrigin k))
-        ∙ ap (λ (i : ℕ). decidedBy i b k) (sym (e ∙ call-first m (record-block b l) s refl)))
+        (tests (goodMap m) (lengthsFit m s) (eqb l 0) (allows (mapRules m) how b l) (mapRules m .aligned b) (isCell b) (shadowOps m .vacant s b l) (isOrigin k))
+        ∙ ap (λ (i : ℕ). decidedBy i b k) (sym (e ∙ call-first m (begin how b l) s refl)))
 
     -- where it is 0, so is the plain form's, and there is room for the origin in the cell of the base
     pub record-ready : decidedBy j b k ≡ 0 → (j ≡ 0) × (k ≤ 4294967295) × ((x : Located) → Lies m b x → Stampable x l s → CellAt x y)
     record-ready z =
         let d = none-of j b k z in
-        let g = number-good m (record-block b l) s refl (sym e ∙ d .0) in (
+        let g = number-good m (begin how b l) s refl (sym e ∙ d .0) in (
           d .0,
           leb-true k 4294967295 (and-true (leb 1 k) (leb k 4294967295) (d .2) .1),
           λ x lies t. cell-at m s y (g .0) (g .1) fit b x lies (in-area x l s t),
@@ -111,21 +111,18 @@ module _ (m : Map) (s : Shadows) (y : Cells) (k : ℕ) (b l : ℕ) where
 
   -- ---- the call, by the number that the check gave
 
-  module _ (w : Bool) (j : ℕ) (e : j ≡ numberOf m (plain (record-block b l)) state) where
-    pub record-refused : j ≢ 0 → _≡_ {A = State × Answer} (stateOf s y (counted j k), refusal j) (call m (plain (begin w b l)) state)
-    record-refused n = sym (is-first w ∙ by-number state (first w) j (after w, done) (e ∙ is-number w) n ∙ rw (ne-eqb j 0 n))
+  module _ (j : ℕ) (e : j ≡ numberOf m (plain (begin how b l)) state) where
+    pub record-refused : j ≢ 0 → _≡_ {A = State × Answer} (stateOf s y (counted j k), refusal j) (call m (plain (begin how b l)) state)
+    record-refused n = sym (is-first ∙ by-number state first j (after, done) (e ∙ is-number) n ∙ rw (ne-eqb j 0 n))
 
-    pub record-accepted : j ≡ 0 → checks.numberOf m (record-block b l) s ≡ 0 → (x : Located) → Lies m b x → Stampable x l s
-        → (t : Shadows) → t ≡ stampedAt x w l s → (z : Cells) → z ≡ setOriginAt x k y
-        → _≡_ {A = State × Answer} (stateOf t z (counted j k), refusal j) (call m (plain (begin w b l)) state)
+    pub record-accepted : j ≡ 0 → checks.numberOf m (begin how b l) s ≡ 0 → (x : Located) → Lies m b x → Stampable x l s
+        → (t : Shadows) → t ≡ stampedAt x how l s → (z : Cells) → z ≡ setOriginAt x k y
+        → _≡_ {A = State × Answer} (stateOf t z (counted j k), refusal j) (call m (plain (begin how b l)) state)
     record-accepted i p x lies st t f z g =
-        let stamped : t ≡ shadowOps m .stamp s (begun w b l) =
-        ap (λ (r : Shadows × Answer). r .0) (record-done m s b l w 0 (sym p) refl x lies t f ∙ call-accepted m (begin w b l) s refl (same w)) in
+        let stamped : t ≡ shadowOps m .stamp s (begun how b l) =
+        ap (λ (r : Shadows × Answer). r .0) (record-done m s b l how 0 (sym p) refl x lies t f ∙ call-accepted m (begin how b l) s refl p) in
         let based : z ≡ cellOps m .setOrigin y b k = g ∙ sym (set-origin-at m y b x k lies (in-area x l s st)) in
-        sym (is-first w ∙ by-zero state (first w) (after w, done) (sym (e ∙ is-number w) ∙ i) ∙ rw (stamped, based, i))
-      where
-        same : (w : Bool) → checks.numberOf m (begin w b l) s ≡ 0
-        same w = call-first m (begin w b l) s refl ∙ sym (call-first m (record-block b l) s refl) ∙ p
+        sym (is-first ∙ by-zero state first (after, done) (sym (e ∙ is-number) ∙ i) ∙ rw (stamped, based, i))
 
 -- an answer and a counter that are those of a number
 pub record-told : (s : Shadows) (y : Cells) (k j : ℕ) (r : State × Answer) (n : ℕ) (a : Answer) → (n ≡ counted j k) × (a ≡ refusal j)

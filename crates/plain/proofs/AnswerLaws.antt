@@ -6,26 +6,25 @@ use Rattle.plain.specs.Reading.{Reading, nothing, block, damaged, Tally,
 use Rattle.plain.specs.Ops.{Ops}
 use Rattle.plain.specs.Call.{Call, clear, begin, free, written, ask, valid, initialised, next, audit, number}
 use Rattle.plain.specs.ShadowCalls.{askAnswer, nextAnswer, auditAnswer, reading, search, shadowAnswer}
-use Prim.Native.Nat.{ℕ}
 
 pub accepted-0 : {S : Type 0} (R : Rules) (O : Ops S) (c : Call) (s : S) → number (shadowAnswer R O c s) ≡ 0
 accepted-0 R O clear s = refl
-accepted-0 R O (begin w b l) s = refl
+accepted-0 R O (begin h b l) s = refl
 accepted-0 R O (free x) s = refl
 accepted-0 R O (written a n) s = refl
 accepted-0 R O (ask a) s = go (reading R O s a)
   where
     go : (r : Reading) → number (askAnswer r) ≡ 0
     go nothing = refl
-    go (block b l o m) = refl
+    go (block b l o m t) = refl
     go damaged = refl
-accepted-0 R O (valid a n from) s = refl
+accepted-0 R O (valid w a n from) s = refl
 accepted-0 R O (initialised a n) s = refl
 accepted-0 R O (next a) s = go (search R O s a)
   where
     go : (r : Reading) → number (nextAnswer r) ≡ 0
     go nothing = refl
-    go (block b l o m) = refl
+    go (block b l o m t) = refl
     go damaged = refl
 accepted-0 R O audit s = go (O .audit s)
   where

@@ -1,6 +1,6 @@
 -- The rules of a heap of segments of any size and of a stack: sound, the same at every start, and within their range. Assumes nothing.
 use mathlib.Core.Path.{_≡_, refl, sym, ap, _∙_}
-use mathlib.Core.Bool.{true, _&&_}
+use mathlib.Core.Bool.{true, false, _&&_}
 use Prim.Native.Nat.{ℕ, _+_, _*_, _-_, _/_, _%_, _≤_, _<_}
 use native.Mathlib.Omega.{arith}
 use native.Mathlib.Nat.{div-add-mod', mod-lt, mod-add-mod, zero-add, mul-le-mul-right, lt-of-mul-lt-mul-right}
@@ -8,8 +8,9 @@ use lib.Dec.{leb}
 use borrow.Author.Tests.{le-leb, eq-eqb, leb-true, eqb-true}
 use Rattle.map.specs.Map.{within}
 use Rattle.map.proofs.MapLaws.{within-true, true-within}
-use Rattle.number.proofs.TestLaws.{Test, is-true, is-false, test, and-true}
-use Rattle.plain.specs.Rules.{Rules, Sound}
+use Rattle.number.proofs.TestLaws.{Test, is-true, is-false, test, and-true, not-both, false-of}
+use Rattle.plain.specs.Block.{Block}
+use Rattle.plain.specs.Rules.{Rules, Proper, Sound}
 use Rattle.plain.specs.Areas.{segments, heapRules, stackRules}
 use Rattle.plain.specs.Lift.{Shifted}
 use Rattle.plain.specs.Join.{joinRules, Separate}
@@ -136,6 +137,10 @@ heap-span G s z b l e =
 
 pub span-heap : (G s z b l : ℕ) → Span s z G b l → heapRules G s z .fits b l ≡ true
 span-heap G s z b l h = rw (le-leb (s + G) b (h .from), le-leb (b + l) (s + z) (h .to)) (true-within s z b (omega arith) (h .begins))
+
+-- a proper block of a heap is no literal
+pub heap-plain : (G s z : ℕ) (b : Block) → Proper (heapRules G s z) b → b .literal ≡ false
+heap-plain G s z b h = false-of (b .literal) (λ t. not-both true refl (h t .0))
 
 pub heap-sound : (G : ℕ) → 0 < G → (s z : ℕ) → Sound (heapRules G s z)
 heap-sound G g s z =

@@ -1,8 +1,8 @@
--- The two ways to record on the plain list: to record a block and then mark all its bytes is to record it as written. Assumes nothing.
+-- The ways to record on the plain list: to record a block and then mark all its bytes is to record it as written. Assumes nothing.
 use mathlib.Core.Path.{_≡_, refl, sym, ap, _∙_}
-use mathlib.Core.Bool.{Bool, true, false, cond}
+use mathlib.Core.Bool.{Bool, true, false, cond, not, _&&_}
 use mathlib.Core.List.{List, [], _∷_, _++_}
-use mathlib.Core.Option.{some}
+use mathlib.Core.Option.{none, some}
 use Prim.Native.Nat.{ℕ, zero, suc, _+_, _-_, _≤_, _<_}
 use native.Mathlib.Omega.{arith}
 use native.Mathlib.Nat.{sub-self}
@@ -10,15 +10,18 @@ use lib.ListN.{set, replicate, length-set, length-replicate, getD-replicate}
 use lib.Dec.{ltb}
 use borrow.Author.Tests.{ltb-true, ltb-false, ne-eqb}
 use Rattle.number.specs.Bits.{bit}
-use Rattle.number.proofs.TestLaws.{Test, is-true, is-false, test, false-of}
-use Rattle.plain.specs.Block.{Block, len, begun, contains, holds, isWritten, markBlock}
-use Rattle.plain.specs.Blocks.{find, any, insert, markOne, markAll}
+use Rattle.number.proofs.TestLaws.{Test, is-true, is-false, test, and-true, and-false-r, false-of}
+use Rattle.plain.specs.declared.Beginning.{Beginning}
+use Rattle.plain.specs.declared.Beginning.the-variants.{Written}
+use Rattle.plain.specs.Block.{Block, len, startsWritten, startsLiteral, begun, contains, holds, isWritten, markBlock}
+use Rattle.plain.specs.Blocks.{find, found, any, insert, markOne, markAll}
 use Rattle.plain.specs.Rules.{Rules, Placed, Sound, meets}
-use Rattle.plain.specs.Call.{begin, written, ask, answer, number, done, firstOf, byRules}
+use Rattle.plain.specs.Call.{begin, written, ask, valid, answer, yesNo, number, done, firstOf, byRules}
 use Rattle.plain.specs.PlainList.{byList, plainStep}
-use Rattle.plain.proofs.BlockLaws.{contains-true, true-contains, true-holds}
+use Rattle.plain.proofs.BlockLaws.{contains-true, true-contains, true-holds, holds-one}
+use Rattle.plain.proofs.FindLaws.{find-at, find-facts}
 use Rattle.plain.proofs.KeptLaws.{any-false, base-inside, apart}
-use Rattle.plain.proofs.RunLaws.{Joins, begin-joins, number-first}
+use Rattle.plain.proofs.RunLaws.{Joins, begin-joins, keep-begin, number-first}
 
 -- ---- the marks of one block
 
@@ -76,7 +79,7 @@ mark-insert a b (c ∷ cs) e m =
 -- so is each byte of a range, since marks change neither base nor length
 marks-insert : (n a : ℕ) (b : Block) (bs : List Block) → b .base ≤ a → a + n ≤ b .base + len b
     → ((x : ℕ) → contains x b ≡ true → any (contains x) bs ≡ false)
-    → markAll a n (insert b bs) ≡ insert (record { base = b .base; marks = setMany (b .marks) (a - b .base) n }) bs
+    → markAll a n (insert b bs) ≡ insert (record { base = b .base; marks = setMany (b .marks) (a - b .base) n; literal = b .literal }) bs
 unfolding markAll setMany
 marks-insert zero a b bs h k alone = refl
 marks-insert (suc n) a b bs h k alone =
@@ -120,52 +123,91 @@ module _ (R : Rules) (G : Sound R) where
       no-c : contains x c ≡ false
       no-c = false-of (contains x c) (λ e. go (contains-true x c e) (test (ltb b (c .base))))
 
-  begin-step : (w : Bool) (b l : ℕ) (bs : List Block) → firstOf (byRules R (begin w b l) ++ byList R (begin w b l) bs) ≡ 0
-      → plainStep R (begin w b l) bs ≡ (insert (begun w b l) bs, done)
+  begin-step : (h : Beginning) (b l : ℕ) (bs : List Block) → firstOf (byRules R (begin h b l) ++ byList R (begin h b l) bs) ≡ 0
+      → plainStep R (begin h b l) bs ≡ (insert (begun h b l) bs, done)
   unfolding plainStep
-  begin-step w b l bs e = rw e
+  begin-step h b l bs e = rw e
 
-  written-step : (w : Bool) (b l : ℕ) (bs : List Block) → Placed R 0 bs → Joins R b l bs
-      → plainStep R (written b l) (insert (begun w b l) bs) ≡ (insert (begun true b l) bs, done)
+  -- the block that was recorded is the one that is found
+  begin-found : (h : Beginning) (b l : ℕ) (bs : List Block) → Placed R 0 bs → Joins R h b l bs → (x : ℕ) → b ≤ x → x < b + l
+      → find (contains x) (insert (begun h b l) bs) ≡ some (begun h b l)
+  begin-found h b l bs P j x p q =
+      find-insert (contains x) (begun h b l) bs (true-contains x (begun h b l) p (omega (arith, length-replicate l (startsWritten h))))
+      (no-share b l (j .some) (j .fits) bs 0 P (j .alone) x p q)
+
+  written-step : (h : Beginning) → startsLiteral h ≡ false → (b l : ℕ) (bs : List Block) → Placed R 0 bs → Joins R h b l bs
+      → plainStep R (written b l) (insert (begun h b l) bs) ≡ (insert (begun Written b l) bs, done)
   unfolding plainStep
-  written-step w b l bs P j = rw (ne-eqb l 0 (omega (arith, j .some)), base-inside R G b l (j .some) (j .fits), held, marked, sub-self b, set-all w l)
+  written-step h nl b l bs P j =
+      rw (ne-eqb l 0 (omega (arith, j .some)), base-inside R G b l (j .some) (j .fits), held, plainly, marked, nl, sub-self b, set-all (startsWritten h) l)
     where
-      ln : len (begun w b l) ≡ l
-      ln = length-replicate l w
+      ln : len (begun h b l) ≡ l
+      ln = length-replicate l (startsWritten h)
 
-      held : any (holds b l) (insert (begun w b l) bs) ≡ true
-      held = any-insert (holds b l) (begun w b l) bs (true-holds b l (begun w b l) (omega arith) (omega (arith, ln)))
+      held : any (holds b l) (insert (begun h b l) bs) ≡ true
+      held = any-insert (holds b l) (begun h b l) bs (true-holds b l (begun h b l) (omega arith) (omega (arith, ln)))
 
-      alone : (x : ℕ) → contains x (begun w b l) ≡ true → any (contains x) bs ≡ false
-      alone x i = let h = contains-true x (begun w b l) i in no-share b l (j .some) (j .fits) bs 0 P (j .alone) x (h .0) (omega (arith, h, ln))
+      alone : (x : ℕ) → contains x (begun h b l) ≡ true → any (contains x) bs ≡ false
+      alone x i = let h = contains-true x (begun h b l) i in no-share b l (j .some) (j .fits) bs 0 P (j .alone) x (h .0) (omega (arith, h, ln))
 
-      marked : markAll b l (insert (begun w b l) bs) ≡ insert (record { base = b; marks = setMany (replicate l w) (b - b) l }) bs
-      marked = marks-insert l b (begun w b l) bs (omega arith) (omega (arith, ln)) alone
+      -- the one block that holds the range is no literal
+      plainly : any (λ c. holds b l c && c .literal) (insert (begun h b l) bs) ≡ false
+      plainly =
+          let p : Block → Bool = λ c. holds b l c && c .literal in
+          ap found (find-at R G (insert (begun h b l) bs) 0 b p (keep-begin R G h b l bs P j) (λ c n w. holds-one b l c (j .some) (and-true (holds b l c) (c .literal) w .0)))
+          ∙ rw (begin-found h b l bs P j b (omega arith) (omega (arith, j .some)), and-false-r (holds b l (begun h b l)) (startsLiteral h) nl)
+
+      marked : markAll b l (insert (begun h b l) bs)
+          ≡ insert (record { base = b; marks = setMany (replicate l (startsWritten h)) (b - b) l; literal = startsLiteral h }) bs
+      marked = marks-insert l b (begun h b l) bs (omega arith) (omega (arith, ln)) alone
 
   ask-found : (x : ℕ) (bs : List Block) (c : Block) → R .inside x ≡ true → find (contains x) bs ≡ some c
       → (plainStep R (ask x) bs) .1 ≡ answer 0 (c .base) (len c) (x - c .base) (bit (isWritten c x))
   unfolding plainStep
   ask-found x bs c i f = rw (i, f)
 
-  -- where a recording is accepted, written of the whole block leaves what recording it as written does
-  pub begin-written : (w : Bool) (b l : ℕ) (bs : List Block) → Placed R 0 bs → number ((plainStep R (begin w b l) bs) .1) ≡ 0
-      → plainStep R (written b l) ((plainStep R (begin w b l) bs) .0) ≡ ((plainStep R (begin true b l) bs) .0, done)
-  begin-written w b l bs P e =
-      let z : firstOf (byRules R (begin w b l) ++ byList R (begin w b l) bs) ≡ 0 = sym (number-first R (begin w b l) bs) ∙ e in
-      rw (begin-step w b l bs z, begin-step true b l bs z) (written-step w b l bs P (begin-joins R w b l bs z))
+  -- where a recording is accepted, and not of a literal, written of the whole block leaves what recording it as written does
+  pub begin-written : (h : Beginning) → startsLiteral h ≡ false → (b l : ℕ) (bs : List Block) → Placed R 0 bs
+      → number ((plainStep R (begin h b l) bs) .1) ≡ 0
+      → plainStep R (written b l) ((plainStep R (begin h b l) bs) .0) ≡ (insert (begun Written b l) bs, done)
+  begin-written h nl b l bs P e =
+      let z : firstOf (byRules R (begin h b l) ++ byList R (begin h b l) bs) ≡ 0 = sym (number-first R (begin h b l) bs) ∙ e in
+      rw (begin-step h b l bs z) (written-step h nl b l bs P (begin-joins R h b l bs z))
 
   -- and what ask answers of each of its bytes right after it
-  pub begin-ask : (w : Bool) (b l : ℕ) (bs : List Block) → Placed R 0 bs → number ((plainStep R (begin w b l) bs) .1) ≡ 0 → (x : ℕ) → b ≤ x → x < b + l
-      → (plainStep R (ask x) ((plainStep R (begin w b l) bs) .0)) .1 ≡ answer 0 b l (x - b) (bit w)
-  begin-ask w b l bs P e x p q =
-      let z : firstOf (byRules R (begin w b l) ++ byList R (begin w b l) bs) ≡ 0 = sym (number-first R (begin w b l) bs) ∙ e in
-      rw (begin-step w b l bs z) (asked (begin-joins R w b l bs z))
+  pub begin-ask : (h : Beginning) (b l : ℕ) (bs : List Block) → Placed R 0 bs → number ((plainStep R (begin h b l) bs) .1) ≡ 0 → (x : ℕ) → b ≤ x → x < b + l
+      → (plainStep R (ask x) ((plainStep R (begin h b l) bs) .0)) .1 ≡ answer 0 b l (x - b) (bit (startsWritten h))
+  begin-ask h b l bs P e x p q =
+      let z : firstOf (byRules R (begin h b l) ++ byList R (begin h b l) bs) ≡ 0 = sym (number-first R (begin h b l) bs) ∙ e in
+      rw (begin-step h b l bs z) (asked (begin-joins R h b l bs z))
     where
-      ln : len (begun w b l) ≡ l
-      ln = length-replicate l w
+      asked : Joins R h b l bs → (plainStep R (ask x) (insert (begun h b l) bs)) .1 ≡ answer 0 b l (x - b) (bit (startsWritten h))
+      asked j = ask-found x (insert (begun h b l) bs) (begun h b l) (G .in-inside b l x (j .fits) p q) (begin-found h b l bs P j x p q)
+          ∙ rw (length-replicate l (startsWritten h), getD-replicate l (x - b) (startsWritten h) false (omega arith))
 
-      asked : Joins R b l bs → (plainStep R (ask x) (insert (begun w b l) bs)) .1 ≡ answer 0 b l (x - b) (bit w)
-      asked j = ask-found x (insert (begun w b l) bs) (begun w b l) (G .in-inside b l x (j .fits) p q)
-          (find-insert (contains x) (begun w b l) bs (true-contains x (begun w b l) p (omega (arith, ln)))
-          (no-share b l (j .some) (j .fits) bs 0 P (j .alone) x p q))
-          ∙ rw (ln, getD-replicate l (x - b) w false (omega arith))
+  valid-found : (x : ℕ) (bs : List Block) (c : Block) → Placed R 0 bs → find (contains x) bs ≡ some c
+      → (plainStep R (valid true x 1 x) bs) .1 ≡ answer 0 (bit (not (c .literal))) 0 0 0
+  unfolding plainStep
+  valid-found x bs c P f =
+      let p : Block → Bool = λ b. holds x 1 b && contains x b && not (true && b .literal) in
+      let h = contains-true x c (find-facts R G bs 0 (contains x) c P f .so) in
+      rw (
+        find-at R G bs 0 x p P (λ b n w. and-true (holds x 1 b) (contains x b) (and-true (holds x 1 b && contains x b) (not (b .literal)) w .0) .1),
+        f,
+        true-holds x 1 c (h .0) (omega arith),
+        true-contains x c (h .0) (h .1),
+      )
+      (go (c .literal))
+    where
+      go : (t : Bool) → yesNo (found (cond (not t) (some c) none)) ≡ answer 0 (bit (not t)) 0 0 0
+      go true = refl
+      go false = refl
+
+  -- and what valid answers of them
+  pub begin-valid : (h : Beginning) (b l : ℕ) (bs : List Block) → Placed R 0 bs → number ((plainStep R (begin h b l) bs) .1) ≡ 0 → (x : ℕ) → b ≤ x → x < b + l
+      → (plainStep R (valid true x 1 x) ((plainStep R (begin h b l) bs) .0)) .1 ≡ answer 0 (bit (not (startsLiteral h))) 0 0 0
+  begin-valid h b l bs P e x p q =
+      let z : firstOf (byRules R (begin h b l) ++ byList R (begin h b l) bs) ≡ 0 = sym (number-first R (begin h b l) bs) ∙ e in
+      let j = begin-joins R h b l bs z in
+      rw (begin-step h b l bs z)
+      (valid-found x (insert (begun h b l) bs) (begun h b l) (keep-begin R G h b l bs P j) (begin-found h b l bs P j x p q))

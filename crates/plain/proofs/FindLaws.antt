@@ -12,7 +12,7 @@ use borrow.Author.Tests.{le-leb, lt-leb, leb-true, eqb-false}
 use Rattle.number.proofs.TestLaws.{Test, is-true, is-false, test, and-true, same-test, not-both, false-of}
 use Rattle.plain.specs.Block.{Block, len, contains, hasBase, markBlock}
 use Rattle.plain.specs.Blocks.{find, markOne}
-use Rattle.plain.specs.Rules.{Rules, Placed, Sound}
+use Rattle.plain.specs.Rules.{Rules, Proper, Placed, Sound}
 use Rattle.plain.proofs.BlockLaws.{contains-true, true-contains}
 
 abbrev pub keepIf : (Block → Bool) → Option Block → Option Block
@@ -56,6 +56,7 @@ module _ (R : Rules) (G : Sound R) where
     pub some : 1 ≤ len b
     pub fits : R .fits (b .base) (len b) ≡ true
     pub aligned : R .aligned (b .base) ≡ true
+    pub proper : Proper R b
 
   pub find-facts : (bs : List Block) (from : ℕ) (q : Block → Bool) (b : Block) → Placed R from bs → find q bs ≡ some b → Facts q b
   unfolding find
@@ -65,7 +66,7 @@ module _ (R : Rules) (G : Sound R) where
       go : Test (q c) → (find q cs ≡ some b → Facts q b) → Facts q b
       go (is-true t) ih =
           let s : c ≡ b = cc in
-          rw (← s) (record { so = t; some = P .some; fits = P .fits; aligned = P .aligned })
+          rw (← s) (record { so = t; some = P .some; fits = P .fits; aligned = P .aligned; proper = P .proper })
       go (is-false t) ih = ih (rw t at e)
 
   pub none-outside : (bs : List Block) (from a : ℕ) → Placed R from bs → R .inside a ≡ false → find (contains a) bs ≡ none

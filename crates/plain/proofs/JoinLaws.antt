@@ -95,6 +95,7 @@ module _ (A B : Rules) (GA : Sound A) (GB : Sound B) (Z : Separate A B) where
       record {
         p-fits = λ b l i. rw i;
         p-aligned = λ b i. rw i;
+        p-heap = λ b i. rw i;
         p-low = λ b l i. rw i;
         p-high = λ b l i. rw i;
         p-own = λ b l a i f x y. GA .in-inside b l a (rw i at f) x y;
@@ -103,11 +104,12 @@ module _ (A B : Rules) (GA : Sound A) (GB : Sound B) (Z : Separate A B) where
             Z .no-meet b l b′ l′ n n′ (rw i at f) (rw i at al) (rw j at f′) (rw j at al′) (rw (i, j) at x) (rw (i, j) at y);
       }
 
-  part-b : Part R B
+  pub part-b : Part (joinRules A B) B
   part-b =
       record {
         p-fits = λ b l j. rw (not-a b j);
         p-aligned = λ b j. rw (not-a b j);
+        p-heap = λ b j. rw (not-a b j);
         p-low = λ b l j. rw (not-a b j);
         p-high = λ b l j. rw (not-a b j);
         p-own = λ b l a j f x y. GB .in-inside b l a (rw (not-a b j) at f) x y;
@@ -215,7 +217,7 @@ module _ (A B : Rules) (GA : Sound A) (GB : Sound B) (Z : Separate A B) where
   b-placed [] from Q = tt
   b-placed (b ∷ bs) from Q =
       let i = not-a (b .base) (in-b b bs from Q) in
-      record { some = Q .some; fits = rw i (Q .fits); aligned = rw i (Q .aligned); room = rw i (Q .room); later = rw i (b-placed bs (B .high (b .base) (len b)) (Q .later)) }
+      record { some = Q .some; fits = rw i (Q .fits); aligned = rw i (Q .aligned); proper = λ t. (rw i (Q .proper t .0), Q .proper t .1); room = rw i (Q .room); later = rw i (b-placed bs (B .high (b .base) (len b)) (Q .later)) }
 
   b-onlyA : (bs : List Block) (from : ℕ) → Placed B from bs → blocksOf A bs ≡ []
   unfolding only
@@ -247,7 +249,7 @@ module _ (A B : Rules) (GA : Sound A) (GB : Sound B) (Z : Separate A B) where
       go : (cs : List Block) → Merged A B xs bs cs → Merged A B (a ∷ xs) bs (insert a cs)
       go cs M =
           record {
-            placed = insert-placed R join-sound a (P .some) f al cs 0 (omega arith) (M .placed) no-meet;
+            placed = insert-placed R join-sound a (P .some) f al (λ t. (rw i (P .proper t .0), P .proper t .1)) cs 0 (omega arith) (M .placed) no-meet;
             onlyA = insert-mine R A join-sound part-a a cs 0 i (M .placed) ∙ ap (insert a) (M .onlyA) ∙ first A GA a xs (A .high (a .base) (len a)) (omega (arith, hi, P .some)) (P .later);
             onlyB = insert-other B a cs (not-b (a .base) i) ∙ M .onlyB;
           }

@@ -10,12 +10,12 @@ use lib.Dec.{ltb}
 use borrow.Author.Tests.{lt-ltb, ne-eqb, eq-eqb}
 use Rattle.number.proofs.TestLaws.{Test, is-true, is-false, test, not-both, false-of}
 use Rattle.plain.specs.Block.{Block, len, contains, markBlock}
-use Rattle.plain.specs.Blocks.{find, any, insert, remove, markOne}
+use Rattle.plain.specs.Blocks.{find, any, Has, here, there, insert, remove, markOne}
 use Rattle.plain.specs.Rules.{Rules, meets, Placed, Sound}
 use Rattle.plain.specs.Layer.{layer}
 use Rattle.plain.proofs.KeptLaws.{any-false}
 use Rattle.plain.proofs.FindLaws.{keepIf}
-use Rattle.plain.proofs.ListLaws.{Has, here, there, find-has}
+use Rattle.plain.proofs.ListLaws.{find-has}
 
 -- what is known of a block of a placed list
 pub record Listed (R : Rules) (from : ℕ) (b : Block) : Type 0 where

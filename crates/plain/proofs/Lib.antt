@@ -1,6 +1,7 @@
 pub mod BlockLaws
 pub mod FindLaws
 pub mod ListLaws
+pub mod HasLaws
 pub mod KeptLaws
 pub mod OnlyLaws
 pub mod JoinLaws
@@ -9,6 +10,7 @@ pub mod AreaLaws
 pub mod ReadBackLaws
 pub mod ImageLaws
 pub mod LayerLaws
+pub mod BeginLaws
 pub mod SameLaws
 pub mod AnswerLaws
 pub mod RunLaws

@@ -28,7 +28,7 @@ pub record Unshifted (s : ℕ) (A E : Rules) : Type 0 where
 
 -- a block by positions, told by addresses
 abbrev up : ℕ → Block → Block
-up s b = record { base = s + b .base; marks = b .marks }
+up s b = record { base = s + b .base; marks = b .marks; literal = b .literal }
 
 abbrev downFound : ℕ → Option Block → Option Block
 downFound s none = none
@@ -52,13 +52,14 @@ module _ (s : ℕ) (A E : Rules) (G : Sound A) (H : Shifted s A E) where
   from-start : (b l : ℕ) → A .fits b l ≡ true → s ≤ b
   from-start b l f = H .s-fits b l f .0
 
-  lift-placed : (bs : List Block) (from : ℕ) → Placed A from bs → Placed E (from - s) (downs s bs)
+  pub lift-placed : (bs : List Block) (from : ℕ) → Placed A from bs → Placed E (from - s) (downs s bs)
   lift-placed [] from Q = tt
   lift-placed (c ∷ cs) from Q =
       record {
         some = Q .some;
         fits = H .s-fits (c .base) (len c) (Q .fits) .1;
         aligned = H .s-aligned (c .base) (len c) (Q .fits) (Q .aligned);
+        proper = λ t. (sym (H .s-heap (c .base)) ∙ Q .proper t .0, Q .proper t .1);
         room = omega (arith, Q .room, H .s-low (c .base) (len c) (Q .fits));
         later = rw e at (lift-placed cs (A .high (c .base) (len c)) (Q .later));
       }
@@ -130,7 +131,7 @@ module _ (s : ℕ) (A E : Rules) (G : Sound A) (H : Shifted s A E) where
       e : a - s - (c .base - s) ≡ a - c .base
       e = omega (arith, from-start (c .base) (len c) (Q .fits))
 
-      go : (t : Bool) → downs s (cond t (markBlock a c ∷ cs) (c ∷ markOne a cs)) ≡ cond t (record { base = c .base - s; marks = set (c .marks) (a - c .base) true } ∷ downs s cs) (down s c ∷ downs s (markOne a cs))
+      go : (t : Bool) → downs s (cond t (markBlock a c ∷ cs) (c ∷ markOne a cs)) ≡ cond t (record { base = c .base - s; marks = set (c .marks) (a - c .base) true; literal = c .literal } ∷ downs s cs) (down s c ∷ downs s (markOne a cs))
       go true = refl
       go false = refl
 
@@ -213,6 +214,7 @@ module _ (s : ℕ) (A E : Rules) (H : Shifted s A E) (U : Unshifted s A E) where
         some = Q .some;
         fits = f;
         aligned = U .u-aligned (b .base) (len b) (Q .fits) (Q .aligned);
+        proper = λ t. (H .s-heap (s + b .base) ∙ ap (E .heap) (back (b .base)) ∙ Q .proper t .0, Q .proper t .1);
         room = omega (arith, lo, Q .room);
         later = rw hi (ups-placed bs (E .high (b .base) (len b)) (Q .later));
       }

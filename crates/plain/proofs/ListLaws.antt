@@ -7,12 +7,7 @@ use Prim.Native.Nat.{ℕ, _-_}
 use native.Mathlib.Omega.{arith}
 use lib.ListN.{length}
 use Rattle.plain.specs.Block.{Block}
-use Rattle.plain.specs.Blocks.{find, total, count}
-
--- b is one of the blocks
-pub data Has (b : Block) : List Block → Type 0 where
-  here : {bs : List Block} → Has b (b ∷ bs)
-  there : {c : Block} {bs : List Block} → Has b bs → Has b (c ∷ bs)
+use Rattle.plain.specs.Blocks.{find, Has, here, there, total, count}
 
 pub find-has : (q : Block → Bool) (bs : List Block) (b : Block) → find q bs ≡ some b → Has b bs × (q b ≡ true)
 unfolding find

@@ -22,6 +22,7 @@ use Rattle.plain.proofs.KeptLaws.{weaken, low-high}
 pub record Part (R A : Rules) : Type 0 where
   pub p-fits : (b l : ℕ) → A .inside b ≡ true → R .fits b l ≡ A .fits b l
   pub p-aligned : (b : ℕ) → A .inside b ≡ true → R .aligned b ≡ A .aligned b
+  pub p-heap : (b : ℕ) → A .inside b ≡ true → R .heap b ≡ A .heap b
   pub p-low : (b l : ℕ) → A .inside b ≡ true → R .low b l ≡ A .low b l
   pub p-high : (b l : ℕ) → A .inside b ≡ true → R .high b l ≡ A .high b l
   -- a block's addresses are all A's or none
@@ -87,6 +88,7 @@ module _ (R A : Rules) (G : Sound R) (P : Part R A) where
             some = Q .some;
             fits = rw (← (P .p-fits (c .base) (len c) t)) (Q .fits);
             aligned = rw (← (P .p-aligned (c .base) t)) (Q .aligned);
+            proper = λ h. (rw (← (P .p-heap (c .base) t)) (Q .proper h .0), Q .proper h .1);
             room = rw (← (P .p-low (c .base) (len c) t)) (Q .room);
             later = rw (← (P .p-high (c .base) (len c) t)) ih;
           })

@@ -70,7 +70,7 @@ module _ (R : Rules) (G : Sound R) where
             h = contains-true a b (find-facts R G bs 0 (contains a) b P e .so)
 
             at : (o : ℕ) → a - b .base ≡ o
-                → told (lookup bs) (block (b .base) (len b) o (bit (isWritten b a))) rest ≡ addFound (cond (hasBase a b) (some b) none) rest
+                → told (lookup bs) (block (b .base) (len b) o (bit (isWritten b a)) (b .literal)) rest ≡ addFound (cond (hasBase a b) (some b) none) rest
             at zero z = rw (eq-eqb (b .base) a (omega (arith, h)), marks-of a b e)
             at (suc o) z = rw (ne-eqb (b .base) a (omega (arith, h)))
 

@@ -1,20 +1,22 @@
 -- Each call keeps the plain list placed and gives no 8; what holds of each call holds of every list of calls. Assumes nothing.
-use mathlib.Core.Path.{_≡_, refl}
-use mathlib.Core.Bool.{Bool, true, false, cond, not}
+use mathlib.Core.Path.{_≡_, refl, sym, ap}
+use mathlib.Core.Bool.{Bool, true, false, cond, not, _&&_}
 use mathlib.Core.List.{List, [], _∷_, _++_}
 use mathlib.Core.Logic.{_≢_}
 use mathlib.Core.Option.{Option, none, some}
-use Prim.Native.Nat.{ℕ, zero, suc, _≤_, _<_}
+use Prim.Native.Nat.{ℕ, zero, suc, _≤_}
 use native.Mathlib.Omega.{arith}
-use lib.ListN.{length-replicate}
+use lib.ListN.{replicate, length-replicate}
 use lib.Dec.{leb, eqb}
 use borrow.Author.Tests.{eqb-false}
 use Rattle.number.specs.Parts.{Each}
-use Rattle.number.proofs.TestLaws.{Test, is-true, is-false, test}
-use Rattle.plain.specs.Block.{Block, len, begun, contains}
+use Rattle.number.proofs.TestLaws.{Test, is-true, is-false, test, and-true, not-both, false-of}
+use Rattle.plain.specs.declared.Beginning.{Beginning}
+use Rattle.plain.specs.declared.Beginning.the-variants.{Unwritten, Written, Literal}
+use Rattle.plain.specs.Block.{Block, len, startsWritten, startsLiteral, begun, contains}
 use Rattle.plain.specs.Blocks.{find, any, insert}
-use Rattle.plain.specs.Rules.{Rules, Placed, Sound, meets}
-use Rattle.plain.specs.Call.{Call, clear, begin, free, written, ask, valid, initialised, next, audit, Answer, number, Refusal, firstOf, unless, byRules}
+use Rattle.plain.specs.Rules.{Rules, Proper, Placed, Sound, meets}
+use Rattle.plain.specs.Call.{Call, clear, begin, free, written, ask, valid, initialised, next, audit, Answer, number, Refusal, firstOf, unless, allows, byRules}
 use Rattle.plain.specs.PlainList.{byList, listAfter, listAnswer, askOf, nextOf, plainStep}
 use Rattle.plain.specs.Run.{run}
 use Rattle.plain.proofs.KeptLaws.{insert-placed, remove-placed, marks-placed}
@@ -22,38 +24,47 @@ use Rattle.plain.proofs.KeptLaws.{insert-placed, remove-placed, marks-p
 -- ---- the placing rules hold after each call
 
 -- what an accepted recording says of the block that begins
-pub record Joins (R : Rules) (b l : ℕ) (bs : List Block) : Type 0 where
+pub record Joins (R : Rules) (h : Beginning) (b l : ℕ) (bs : List Block) : Type 0 where
   pub some : 1 ≤ l
   pub fits : R .fits b l ≡ true
   pub aligned : R .aligned b ≡ true
   pub alone : any (meets R b l) bs ≡ false
+  pub proper : Proper R (begun h b l)
 
-pub begin-joins : (R : Rules) (w : Bool) (b l : ℕ) (bs : List Block) → firstOf (byRules R (begin w b l) ++ byList R (begin w b l) bs) ≡ 0 → Joins R b l bs
-begin-joins R w b l bs = go (test (eqb l 0)) (test (R .fits b l)) (test (R .aligned b)) (test (any (meets R b l) bs))
+-- a literal that is allowed is the stack's, and begins with every byte written
+pub begun-proper : (R : Rules) (h : Beginning) (b l : ℕ) → not (startsLiteral h && R .heap b) ≡ true → Proper R (begun h b l)
+begun-proper R Unwritten b l e t = absurd (not-both false t refl)
+begun-proper R Written b l e t = absurd (not-both false t refl)
+begun-proper R Literal b l e t = (false-of (R .heap b) (λ x. not-both false (rw x at e) refl), ap (λ (n : ℕ). replicate n true) (sym (length-replicate l true)))
+
+pub begin-joins : (R : Rules) (h : Beginning) (b l : ℕ) (bs : List Block) → firstOf (byRules R (begin h b l) ++ byList R (begin h b l) bs) ≡ 0 → Joins R h b l bs
+begin-joins R h b l bs = go (test (eqb l 0)) (test (allows R h b l)) (test (R .aligned b)) (test (any (meets R b l) bs))
   where
-    go : Test (eqb l 0) → Test (R .fits b l) → Test (R .aligned b) → Test (any (meets R b l) bs)
-        → _≡_ {A = ℕ} (cond (eqb l 0) 3 (cond (not (R .fits b l)) 4 (cond (not (R .aligned b)) 5 (cond (any (meets R b l) bs) 6 0)))) 0 → Joins R b l bs
+    go : Test (eqb l 0) → Test (allows R h b l) → Test (R .aligned b) → Test (any (meets R b l) bs)
+        → _≡_ {A = ℕ} (cond (eqb l 0) 3 (cond (not (allows R h b l)) 4 (cond (not (R .aligned b)) 5 (cond (any (meets R b l) bs) 6 0)))) 0 → Joins R h b l bs
     go (is-true n) f a m e = absurd (omega (arith, rw n at e))
     go (is-false n) (is-false f) a m e = absurd (omega (arith, rw (n, f) at e))
     go (is-false n) (is-true f) (is-false a) m e = absurd (omega (arith, rw (n, f, a) at e))
     go (is-false n) (is-true f) (is-true a) (is-true m) e = absurd (omega (arith, rw (n, f, a, m) at e))
     go (is-false n) (is-true f) (is-true a) (is-false m) e =
-        let k : l ≢ 0 = eqb-false l 0 n in record { some = omega arith; fits = f; aligned = a; alone = m }
+        let k : l ≢ 0 = eqb-false l 0 n in
+        let t = and-true (R .fits b l) (not (startsLiteral h && R .heap b)) f in
+        record { some = omega arith; fits = t .0; aligned = a; alone = m; proper = begun-proper R h b l (t .1) }
 
 module _ (R : Rules) (G : Sound R) where
-  keep-begin : (w : Bool) (b l : ℕ) (bs : List Block) → Placed R 0 bs → Joins R b l bs → Placed R 0 (insert (begun w b l) bs)
-  keep-begin w b l bs P j =
-      let ln : len (begun w b l) ≡ l = length-replicate l w in
-      insert-placed R G (begun w b l) (rw ln (j .some)) (rw ln (j .fits)) (j .aligned) bs 0 (omega arith) P (rw ln (j .alone))
+  pub keep-begin : (h : Beginning) (b l : ℕ) (bs : List Block) → Placed R 0 bs → Joins R h b l bs → Placed R 0 (insert (begun h b l) bs)
+  keep-begin h b l bs P j =
+      let ln : len (begun h b l) ≡ l = length-replicate l (startsWritten h) in
+      insert-placed R G (begun h b l) (rw ln (j .some)) (rw ln (j .fits)) (j .aligned) (j .proper) bs 0 (omega arith) P (rw ln (j .alone))
 
   keep-after : (c : Call) (bs : List Block) → Placed R 0 bs → firstOf (byRules R c ++ byList R c bs) ≡ 0 → Placed R 0 (listAfter c bs)
   keep-after clear bs P e = tt
-  keep-after (begin w b l) bs P e = keep-begin w b l bs P (begin-joins R w b l bs e)
+  keep-after (begin h b l) bs P e = keep-begin h b l bs P (begin-joins R h b l bs e)
   keep-after (free zero) bs P e = P
   keep-after (free (suc x)) bs P e = remove-placed R G (suc x) bs 0 P
   keep-after (written a n) bs P e = marks-placed R n a bs 0 P
   keep-after (ask a) bs P e = P
-  keep-after (valid a n from) bs P e = P
+  keep-after (valid w a n from) bs P e = P
   keep-after (initialised a n) bs P e = P
   keep-after (next a) bs P e = P
   keep-after audit bs P e = P
@@ -68,33 +79,33 @@ module _ (R : Rules) (G : Sound R) where
 
 -- ---- number 8 is never given
 
-abbrev Low : List Refusal → Type 0
-Low rs = Each (λ (r : Refusal). r .0 < 8) rs
+abbrev No8 : List Refusal → Type 0
+No8 rs = Each (λ (r : Refusal). r .0 ≢ 8) rs
 
-first-low : (rs : List Refusal) → Low rs → firstOf rs < 8
-first-low [] h = omega arith
-first-low (r ∷ rs) h = go (r .1) (first-low rs (h .1))
+first-8 : (rs : List Refusal) → No8 rs → firstOf rs ≢ 8
+first-8 [] h = omega arith
+first-8 (r ∷ rs) h = go (r .1) (first-8 rs (h .1))
   where
-    go : (t : Bool) → firstOf rs < 8 → cond t (r .0) (firstOf rs) < 8
+    go : (t : Bool) → firstOf rs ≢ 8 → cond t (r .0) (firstOf rs) ≢ 8
     go true k = h .0
     go false k = k
 
-listed-low : (R : Rules) (c : Call) (bs : List Block) → Low (byRules R c ++ byList R c bs)
-listed-low R clear bs = tt
-listed-low R (begin w b l) bs = (omega arith, (omega arith, (omega arith, (omega arith, tt))))
-listed-low R (free zero) bs = tt
-listed-low R (free (suc x)) bs = (omega arith, (omega arith, tt))
-listed-low R (written a n) bs = (omega arith, (omega arith, (omega arith, tt)))
-listed-low R (ask a) bs = (omega arith, (omega arith, tt))
-listed-low R (valid a n from) bs = (omega arith, tt)
-listed-low R (initialised a n) bs = (omega arith, tt)
-listed-low R (next a) bs = (omega arith, tt)
-listed-low R audit bs = tt
+listed-8 : (R : Rules) (c : Call) (bs : List Block) → No8 (byRules R c ++ byList R c bs)
+listed-8 R clear bs = tt
+listed-8 R (begin h b l) bs = (omega arith, (omega arith, (omega arith, (omega arith, tt))))
+listed-8 R (free zero) bs = tt
+listed-8 R (free (suc x)) bs = (omega arith, (omega arith, tt))
+listed-8 R (written a n) bs = (omega arith, (omega arith, (omega arith, (omega arith, tt))))
+listed-8 R (ask a) bs = (omega arith, (omega arith, tt))
+listed-8 R (valid w a n from) bs = (omega arith, tt)
+listed-8 R (initialised a n) bs = (omega arith, tt)
+listed-8 R (next a) bs = (omega arith, tt)
+listed-8 R audit bs = tt
 
 -- an accepted call has number 0
 pub accepted-0 : (R : Rules) (c : Call) (bs : List Block) → number (listAnswer R c bs) ≡ 0
 accepted-0 R clear bs = refl
-accepted-0 R (begin w b l) bs = refl
+accepted-0 R (begin h b l) bs = refl
 accepted-0 R (free x) bs = refl
 accepted-0 R (written a n) bs = refl
 accepted-0 R (ask a) bs = go (find (contains a) bs)
@@ -102,7 +113,7 @@ accepted-0 R (ask a) bs = go (find (contains a) bs)
     go : (o : Option Block) → number (askOf a o) ≡ 0
     go none = refl
     go (some b) = refl
-accepted-0 R (valid a n from) bs = refl
+accepted-0 R (valid w a n from) bs = refl
 accepted-0 R (initialised a n) bs = refl
 accepted-0 R (next a) bs = go (find (λ b. leb a (b .base)) bs)
   where
@@ -120,8 +131,8 @@ pub number-first : (R : Rules) (c : Call) (bs : List Block) → number ((plainSt
 unfolding plainStep
 number-first R c bs = unless-number (firstOf (byRules R c ++ byList R c bs)) bs (listAfter c bs, listAnswer R c bs) (accepted-0 R c bs)
 
-pub low : (R : Rules) (c : Call) (bs : List Block) → number ((plainStep R c bs) .1) < 8
-low R c bs = rw (number-first R c bs) (first-low (byRules R c ++ byList R c bs) (listed-low R c bs))
+pub never-8 : (R : Rules) (c : Call) (bs : List Block) → number ((plainStep R c bs) .1) ≢ 8
+never-8 R c bs = rw (number-first R c bs) (first-8 (byRules R c ++ byList R c bs) (listed-8 R c bs))
 
 -- ---- whole lists of calls
 

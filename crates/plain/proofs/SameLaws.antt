@@ -7,28 +7,28 @@ use mathlib.Core.Option.{Option, none, some}
 use Prim.Native.Nat.{ℕ, zero, suc, _+_, _-_, _≤_, _<_}
 use native.Mathlib.Omega.{arith}
 use lib.Dec.{leb, eqb}
-use lib.ListN.{length-replicate}
 use borrow.Author.Tests.{eq-eqb, ne-eqb, eqb-true, eqb-false}
 use Rattle.number.specs.Bits.{bit}
 use Rattle.number.proofs.TestLaws.{Test, is-true, is-false, test, and-true, same-test, false-of}
-use Rattle.plain.specs.Block.{Block, len, begun, contains, holds, hasBase, isWritten, allWritten}
-use Rattle.plain.specs.Blocks.{find, found, any, insert, remove, markOne, markAll}
-use Rattle.plain.specs.Rules.{Rules, Placed, Sound, meets}
+use Rattle.plain.specs.Block.{Block, len, contains, holds, hasBase, isWritten, allWritten}
+use Rattle.plain.specs.Blocks.{find, found, remove, markOne, markAll}
+use Rattle.plain.specs.Rules.{Rules, Placed, Sound}
 use Rattle.plain.specs.Reading.{Reading, nothing, block, says, lookup}
 use Rattle.plain.specs.Ops.{Ops, markRange, rangeMarked, readAny}
 use Rattle.plain.specs.Images.{Images}
 use Rattle.plain.specs.Call.{Call, clear, begin, free, written, ask, valid, initialised, next, audit, Answer, done, yesNo, unless}
 use Rattle.plain.specs.PlainList.{askOf, nextOf, plainStep}
-use Rattle.plain.specs.ShadowCalls.{isDamaged, isBlock, isFirst, inOne, sameBlock, lengthOf, stop, climb, askAnswer, nextAnswer, shadowStep}
+use Rattle.plain.specs.ShadowCalls.{isDamaged, isBlock, isFirst, inOne, isLiteral, sameBlock, lengthOf, stop, climb, askAnswer, nextAnswer, shadowStep}
 use Rattle.plain.proofs.BlockLaws.{contains-true, true-contains, holds-true, true-holds, holds-one, base-holds, offset-test}
 use Rattle.plain.proofs.FindLaws.{keepIf, find-at, find-facts, find-other, first-here, none-top, first-up, mark-find}
 use Rattle.plain.proofs.KeptLaws.{mark-placed}
 use Rattle.plain.proofs.ReadBackLaws.{image-reads}
+use Rattle.plain.proofs.BeginLaws.{begin-same}
 
 -- the reading that a search ends with
 abbrev start : Option Block → Reading
 start none = nothing
-start (some b) = block (b .base) (len b) 0 (bit (isWritten b (b .base)))
+start (some b) = block (b .base) (len b) 0 (bit (isWritten b (b .base))) (b .literal)
 
 module _ {S : Type 0} (R : Rules) (G : Sound R) (O : Ops S) (image : List Block → S) (I : Images R O image) where
   abbrev both : List Block × Answer → S × Answer
@@ -93,34 +93,6 @@ module _ {S : Type 0} (R : Rules) (G : Sound R) (O : Ops S) (image : List Block 
                 rw (h, eq-eqb (x - b .base) 0 (omega arith), I .image-erase bs P x b t (q ∙ rw (e, h)))
             at-block (is-false h) = rw (h, ne-eqb (x - b .base) 0 (λ z. eqb-false (b .base) x h (omega (arith, facts x b e))))
 
-    begin-same : (w : Bool) (b l : ℕ) → shadowStep R O (begin w b l) (image bs) ≡ both (plainStep R (begin w b l) bs)
-    unfolding shadowStep plainStep
-    begin-same w b l = go (test (eqb l 0)) (test (R .fits b l)) (test (R .aligned b))
-      where
-        ln : len (begun w b l) ≡ l
-        ln = length-replicate l w
-
-        last : l ≢ 0 → R .fits b l ≡ true → R .aligned b ≡ true → Test (any (meets R b l) bs)
-            → unless (cond (not (O .vacant (image bs) b l)) 6 0) (image bs) (O .stamp (image bs) (begun w b l), done)
-            ≡ both (unless (cond (any (meets R b l) bs) 6 0) bs (insert (begun w b l) bs, done))
-        last n f a (is-true m) = rw (I .image-vacant bs P b l (omega arith) f a, m)
-        last n f a (is-false m) =
-            rw (
-              I .image-vacant bs P b l (omega arith) f a,
-              m,
-              I .image-stamp bs P (begun w b l) (rw ln (omega arith)) (rw ln f) a (rw ln m),
-            )
-
-        go : Test (eqb l 0) → Test (R .fits b l) → Test (R .aligned b)
-            → unless (cond (eqb l 0) 3 (cond (not (R .fits b l)) 4 (cond (not (R .aligned b)) 5 (cond (not (O .vacant (image bs) b l)) 6 0)))) (image bs)
-            (O .stamp (image bs) (begun w b l), done)
-            ≡ both (unless (cond (eqb l 0) 3 (cond (not (R .fits b l)) 4 (cond (not (R .aligned b)) 5 (cond (any (meets R b l) bs) 6 0)))) bs
-            (insert (begun w b l) bs, done))
-        go (is-true n) f a = rw n
-        go (is-false n) (is-false f) a = rw (n, f)
-        go (is-false n) (is-true f) (is-false a) = rw (n, f, a)
-        go (is-false n) (is-true f) (is-true a) = rw (n, f, a) (last (eqb-false l 0 n) f a (test (any (meets R b l) bs)))
-
     -- ---- ranges of bytes
 
     marked-same : (a : ℕ) (b : Block) → find (contains a) bs ≡ some b → O .marked (image bs) a ≡ isWritten b a
@@ -166,20 +138,22 @@ module _ {S : Type 0} (R : Rules) (G : Sound R) (O : Ops S) (image : List Block 
         go (is-false k) (some b) e =
             rw (k, only-at (eqb-false n 0 k), e, offset-test a n b (facts a b e .0), same b e (test (holds a n b)))
 
-    valid-same : (a n from : ℕ) → shadowStep R O (valid a n from) (image bs) ≡ both (plainStep R (valid a n from) bs)
+    valid-same : (w : Bool) (a n from : ℕ) → shadowStep R O (valid w a n from) (image bs) ≡ both (plainStep R (valid w a n from) bs)
     unfolding shadowStep plainStep
-    valid-same a n from =
+    valid-same w a n from =
         ap (λ (r : Reading). by r (readAny R O (image bs) from)) (reads a) ∙ ap (by (lookup bs a)) (reads from)
         ∙ go (test (eqb n 0)) (find (contains a) bs) refl (find (contains from) bs) refl
       where
         by : Reading → Reading → S × Answer
-        by r q = unless (cond (eqb n 0) 3 (cond (isDamaged r || isDamaged q) 8 0)) (image bs) (image bs, yesNo (inOne n r && sameBlock r q))
+        by r q = unless (cond (eqb n 0) 3 (cond (isDamaged r || isDamaged q) 8 0)) (image bs) (image bs, yesNo (inOne n r && sameBlock r q && not (w && isLiteral r)))
 
         p : Block → Bool
-        p b = holds a n b && contains from b
+        p b = holds a n b && contains from b && not (w && b .literal)
 
         only-at : n ≢ 0 → find p bs ≡ keepIf p (find (contains a) bs)
-        only-at k = find-at R G bs 0 a p P (λ c l w. holds-one a n c (omega arith) (and-true (holds a n c) (contains from c) w .0))
+        only-at k = find-at R G bs 0 a p P (λ c l u.
+            holds-one a n c (omega arith)
+            (and-true (holds a n c) (contains from c) (and-true (holds a n c && contains from c) (not (w && c .literal)) u .0) .0))
 
         elsewhere : (b : Block) → find (contains a) bs ≡ some b → find (contains from) bs ≡ none → contains from b ≡ false
         elsewhere b e g =
@@ -233,7 +207,7 @@ module _ {S : Type 0} (R : Rules) (G : Sound R) (O : Ops S) (image : List Block 
         go none e = rw (first-up bs a (q ∙ rw e))
         go (some b) e = by-offset (a - b .base) refl
           where
-            by-offset : (k : ℕ) → a - b .base ≡ k → stop (block (b .base) (len b) k (bit (isWritten b a))) above ≡ start (find (λ d. leb a (d .base)) bs)
+            by-offset : (k : ℕ) → a - b .base ≡ k → stop (block (b .base) (len b) k (bit (isWritten b a)) (b .literal)) above ≡ start (find (λ d. leb a (d .base)) bs)
             by-offset zero z =
                 let e′ : b .base ≡ a = omega (arith, facts a b e, z) in
                 rw (first-here R G bs 0 a b P e e′, e′)
@@ -277,30 +251,40 @@ module _ {S : Type 0} (R : Rules) (G : Sound R) (O : Ops S) (image : List Block 
         only-at : n ≢ 0 → find (holds a n) bs ≡ keepIf (holds a n) (find (contains a) bs)
         only-at k = find-at R G bs 0 a (holds a n) P (λ c l w. holds-one a n c (omega arith) w)
 
-        at-block : (b : Block) → find (contains a) bs ≡ some b → Test (holds a n b)
-            → unless (cond (not (holds a n b)) 7 0) (image bs) (markRange O (image bs) a n, done)
-            ≡ both (unless (cond (not (found (cond (holds a n b) (some b) none))) 7 0) bs (markAll a n bs, done))
-        at-block b e (is-true h) = rw (h, range-same n a bs P b e h)
-        at-block b e (is-false h) = rw h
+        -- a literal that holds the range
+        p : Block → Bool
+        p b = holds a n b && b .literal
+
+        only-literal : n ≢ 0 → find p bs ≡ keepIf p (find (contains a) bs)
+        only-literal k = find-at R G bs 0 a p P (λ c l w. holds-one a n c (omega arith) (and-true (holds a n c) (c .literal) w .0))
+
+        at-block : (b : Block) → find (contains a) bs ≡ some b → Test (holds a n b) → Test (b .literal)
+            → unless (cond (not (holds a n b)) 7 (cond (b .literal) 13 0)) (image bs) (markRange O (image bs) a n, done)
+            ≡ both (unless (cond (not (found (cond (holds a n b) (some b) none))) 7 (cond (found (cond (p b) (some b) none)) 13 0)) bs (markAll a n bs, done))
+        at-block b e (is-true h) (is-true t) = rw (h, t)
+        at-block b e (is-true h) (is-false t) = rw (h, t, range-same n a bs P b e h)
+        at-block b e (is-false h) t = rw h
 
         go : Test (eqb n 0) → Test (R .inside a) → (o : Option Block) → find (contains a) bs ≡ o
-            → unless (cond (eqb n 0) 3 (cond (not (R .inside a)) 4 (cond (isDamaged (says a o)) 8 (cond (not (inOne n (says a o))) 7 0)))) (image bs)
-            (markRange O (image bs) a n, done)
-            ≡ both (unless (cond (eqb n 0) 3 (cond (not (R .inside a)) 4 (cond (not (found (find (holds a n) bs))) 7 0))) bs (markAll a n bs, done))
+            → unless (cond (eqb n 0) 3 (cond (not (R .inside a)) 4 (cond (isDamaged (says a o)) 8 (cond (not (inOne n (says a o))) 7 (cond (isLiteral (says a o)) 13 0)))))
+            (image bs) (markRange O (image bs) a n, done)
+            ≡ both (unless (cond (eqb n 0) 3 (cond (not (R .inside a)) 4 (cond (not (found (find (holds a n) bs))) 7 (cond (found (find p bs)) 13 0)))) bs
+            (markAll a n bs, done))
         go (is-true k) i o e = rw k
         go (is-false k) (is-false i) o e = rw (k, i)
         go (is-false k) (is-true i) none e = rw (k, i, only-at (eqb-false n 0 k), e)
         go (is-false k) (is-true i) (some b) e =
-            rw (k, i, only-at (eqb-false n 0 k), e, offset-test a n b (facts bs P a b e .0)) (at-block b e (test (holds a n b)))
+            rw (k, i, only-at (eqb-false n 0 k), only-literal (eqb-false n 0 k), e, offset-test a n b (facts bs P a b e .0))
+            (at-block b e (test (holds a n b)) (test (b .literal)))
 
     -- every call
     pub step-same : (c : Call) → shadowStep R O c (image bs) ≡ both (plainStep R c bs)
     step-same clear = clear-same bs P
-    step-same (begin w b l) = begin-same bs P w b l
+    step-same (begin h b l) = begin-same R O image I bs P h b l
     step-same (free x) = free-same bs P x
     step-same (written a n) = written-same a n
     step-same (ask a) = ask-same bs P a
-    step-same (valid a n from) = valid-same bs P a n from
+    step-same (valid w a n from) = valid-same bs P w a n from
     step-same (initialised a n) = initialised-same bs P a n
     step-same (next a) = next-same bs P a
     step-same audit = audit-same bs P

@@ -1,5 +1,7 @@
 -- What the code's answers stand for. Assumes nothing.
 use mathlib.Core.Option.{Option, none, some}
+use Prim.Native.Nat.{_/_, _%_}
+use lib.Dec.{eqb}
 use Rattle.plain.specs.declared.Reading as code
 use Rattle.plain.specs.declared.Reading.the-variants.{Nothing, Block, Damaged}
 use Rattle.plain.specs.declared.Audit.{Audit}
@@ -8,7 +10,7 @@ use Rattle.plain.specs.Reading.{Reading, nothing, block, damaged, Tally,
 
 abbrev pub readingOf : code.Reading → Reading
 readingOf Nothing = nothing
-readingOf (Block base length offset written) = block (base .0) length offset written
+readingOf (Block base length offset bits) = block (base .0) length offset (bits % 2) (eqb (bits / 2 % 2) 1)
 readingOf Damaged = damaged
 
 -- an audit of the heap, and one of the stack

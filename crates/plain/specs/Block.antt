@@ -4,18 +4,32 @@ use mathlib.Core.List.{List}
 use Prim.Native.Nat.{ℕ, zero, suc, _+_, _-_}
 use lib.ListN.{length, getD, set, replicate}
 use lib.Dec.{leb, ltb, eqb}
+use Rattle.plain.specs.declared.Beginning.{Beginning}
+use Rattle.plain.specs.declared.Beginning.the-variants.{Unwritten, Written, Literal}
 
--- where it begins, and for each of its bytes whether it is written
+-- where it begins, for each of its bytes whether it is written, and whether it is a literal: may be read, never written
 pub record Block : Type 0 where
   pub base : ℕ
   pub marks : List Bool
+  pub literal : Bool
 
 abbrev pub len : Block → ℕ
 len b = length (b .marks)
 
--- a block as it begins: no byte written, or every byte
-abbrev pub begun : (written : Bool) (base length : ℕ) → Block
-begun w b l = record { base = b; marks = replicate l w }
+-- how a block begins: is every byte of it written, or none; is it a literal
+abbrev pub startsWritten : Beginning → Bool
+startsWritten Unwritten = false
+startsWritten Written = true
+startsWritten Literal = true
+
+abbrev pub startsLiteral : Beginning → Bool
+startsLiteral Unwritten = false
+startsLiteral Written = false
+startsLiteral Literal = true
+
+-- a block as it begins
+abbrev pub begun : (how : Beginning) (base length : ℕ) → Block
+begun h b l = record { base = b; marks = replicate l (startsWritten h); literal = startsLiteral h }
 
 -- the block holds the address
 abbrev pub contains : ℕ → Block → Bool
@@ -39,4 +53,4 @@ allWritten a (suc n) b = isWritten b a && allWritten (suc a) n b
 
 -- the byte at an address that the block holds counts as written
 abbrev pub markBlock : ℕ → Block → Block
-markBlock a b = record { base = b .base; marks = set (b .marks) (a - b .base) true }
+markBlock a b = record { base = b .base; marks = set (b .marks) (a - b .base) true; literal = b .literal }

@@ -20,6 +20,11 @@ found (some b) = true
 abbrev pub any : (Block → Bool) → List Block → Bool
 any p bs = found (find p bs)
 
+-- b is one of the blocks
+pub data Has (b : Block) : List Block → Type 0 where
+  here : {bs : List Block} → Has b (b ∷ bs)
+  there : {c : Block} {bs : List Block} → Has b bs → Has b (c ∷ bs)
+
 -- a block joins, in address order
 unfoldable pub insert : Block → List Block → List Block
 insert b [] = b ∷ []

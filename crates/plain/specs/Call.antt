@@ -1,31 +1,45 @@
 -- The calls, their answers, and the order of refusals. Assumes nothing.
-use mathlib.Core.Bool.{Bool, true, false, cond, not}
+use mathlib.Core.Bool.{Bool, true, false, cond, not, _&&_}
 use mathlib.Core.List.{List, [], _∷_}
 use Prim.Native.Nat.{ℕ, zero, suc}
 use lib.Dec.{eqb}
 use Rattle.number.specs.Bits.{bit}
+use Rattle.plain.specs.declared.Beginning.{Beginning}
+use Rattle.plain.specs.declared.Beginning.the-variants.{Unwritten, Written, Literal}
+use Rattle.plain.specs.Block.{startsLiteral}
 use Rattle.plain.specs.Rules.{Rules}
 
 -- arguments are any numbers
 pub data Call : Type 0 where
   clear : Call
-  -- a block begins: no byte counts as written, or every byte does
-  begin : (written : Bool) (base length : ℕ) → Call
+  -- a block begins: no byte counts as written, every byte does, or it is a literal
+  begin : (how : Beginning) (base length : ℕ) → Call
   -- address 0, C's null pointer, is accepted and changes nothing
   free : (base : ℕ) → Call
   written : (address n : ℕ) → Call
   ask : (address : ℕ) → Call
-  valid : (address n from : ℕ) → Call
+  -- may the bytes be read; with `write`, may they be written as well
+  valid : (write : Bool) (address n from : ℕ) → Call
   initialised : (address n : ℕ) → Call
   next : (address : ℕ) → Call
   audit : Call
 
--- the two ways to record a block
+-- the three ways to record a block
 abbrev pub record-block : (base length : ℕ) → Call
-record-block b l = begin false b l
+record-block b l = begin Unwritten b l
 
 abbrev pub record-written : (base length : ℕ) → Call
-record-written b l = begin true b l
+record-written b l = begin Written b l
+
+abbrev pub record-literal : (base length : ℕ) → Call
+record-literal b l = begin Literal b l
+
+-- the two questions of a range
+abbrev pub valid-write : (address n from : ℕ) → Call
+valid-write a n from = valid true a n from
+
+abbrev pub valid-read : (address n from : ℕ) → Call
+valid-read a n from = valid false a n from
 
 -- the number, 0 for accepted, and the four answer fields, zero where unused
 pub data Answer : Type 0 where
@@ -58,15 +72,19 @@ abbrev pub unless : {S : Type 0} → ℕ → S → S × Answer → S × Answer
 unless zero s r = r
 unless (suc k) s r = (s, refusal (suc k))
 
+-- the block fits the area of its base, which is the stack for a literal
+abbrev pub allows : Rules → (how : Beginning) (base length : ℕ) → Bool
+allows R h b l = R .fits b l && not (startsLiteral h && R .heap b)
+
 -- 3, 4 and 5, which follow from arguments and map
 abbrev pub byRules : Rules → Call → List Refusal
 byRules R clear = []
-byRules R (begin w b l) = (3, eqb l 0) ∷ (4, not (R .fits b l)) ∷ (5, not (R .aligned b)) ∷ []
+byRules R (begin h b l) = (3, eqb l 0) ∷ (4, not (allows R h b l)) ∷ (5, not (R .aligned b)) ∷ []
 byRules R (free zero) = []
 byRules R (free (suc x)) = (4, not (R .inside (suc x))) ∷ []
 byRules R (written a n) = (3, eqb n 0) ∷ (4, not (R .inside a)) ∷ []
 byRules R (ask a) = (4, not (R .inside a)) ∷ []
-byRules R (valid a n from) = (3, eqb n 0) ∷ []
+byRules R (valid w a n from) = (3, eqb n 0) ∷ []
 byRules R (initialised a n) = (3, eqb n 0) ∷ []
 byRules R (next a) = []
 byRules R audit = []

@@ -17,10 +17,10 @@ abbrev pub goesOn : List Bool → Found → Found
 goesOn m bad = bad
 goesOn m (got ms bs) = got (m ++ ms) bs
 
--- a block begins before what was found
-abbrev pub begins : ℕ → Found → Found
-begins base bad = bad
-begins base (got ms bs) = got [] (record { base = base; marks = ms } ∷ bs)
+-- a block begins before what was found, a literal or not
+abbrev pub begins : (base : ℕ) (literal : Bool) → Found → Found
+begins base t bad = bad
+begins base t (got ms bs) = got [] (record { base = base; marks = ms; literal = t } ∷ bs)
 
 -- the totals of what a whole walk found: it begins with no block going on, so that no marks stand before the first block
 abbrev pub totals : Rules → Found → Option Tally

@@ -21,11 +21,11 @@ pub record Shifted (s : ℕ) (A E : Rules) : Type 0 where
 abbrev pub readingUp : ℕ → Reading → Reading
 readingUp s nothing = nothing
 readingUp s damaged = damaged
-readingUp s (block b l o m) = block (s + b) l o m
+readingUp s (block b l o m t) = block (s + b) l o m t
 
 -- a block by addresses, told by positions
 abbrev pub down : ℕ → Block → Block
-down s b = record { base = b .base - s; marks = b .marks }
+down s b = record { base = b .base - s; marks = b .marks; literal = b .literal }
 
 abbrev pub downs : ℕ → List Block → List Block
 downs s bs = map (down s) bs

@@ -12,28 +12,28 @@ use Rattle.plain.specs.Blocks as blocks
 use Rattle.plain.specs.Rules.{Rules, meets}
 use Rattle.plain.specs.Call.{Call, clear, begin, free, written, ask, valid, initialised, next, audit, Answer, answer, done, yesNo, Refusal, firstOf, unless, byRules}
 
--- the refusals that the live blocks decide: 6 where footprints meet, 7 where there is no such block
+-- the refusals that the live blocks decide: 6 where footprints meet, 7 where there is no such block, 13 where it is a literal
 abbrev pub byList : Rules → Call → List Block → List Refusal
-byList R (begin w b l) bs = (6, any (meets R b l) bs) ∷ []
+byList R (begin h b l) bs = (6, any (meets R b l) bs) ∷ []
 byList R (free zero) bs = []
 byList R (free (suc x)) bs = (7, not (any (hasBase (suc x)) bs)) ∷ []
-byList R (written a n) bs = (7, not (any (holds a n) bs)) ∷ []
+byList R (written a n) bs = (7, not (any (holds a n) bs)) ∷ (13, any (λ b. holds a n b && b .literal) bs) ∷ []
 byList R (ask a) bs = (7, not (any (contains a) bs)) ∷ []
 byList R (next a) bs = (7, not (any (λ b. leb a (b .base)) bs)) ∷ []
 byList R clear bs = []
-byList R (valid a n from) bs = []
+byList R (valid w a n from) bs = []
 byList R (initialised a n) bs = []
 byList R audit bs = []
 
 -- the live blocks after an accepted call
 abbrev pub listAfter : Call → List Block → List Block
 listAfter clear bs = []
-listAfter (begin w b l) bs = insert (begun w b l) bs
+listAfter (begin h b l) bs = insert (begun h b l) bs
 listAfter (free zero) bs = bs
 listAfter (free (suc x)) bs = remove (suc x) bs
 listAfter (written a n) bs = markAll a n bs
 listAfter (ask a) bs = bs
-listAfter (valid a n from) bs = bs
+listAfter (valid w a n from) bs = bs
 listAfter (initialised a n) bs = bs
 listAfter (next a) bs = bs
 listAfter audit bs = bs
@@ -51,11 +51,11 @@ nextOf (some b) = answer 0 (b .base) (len b) 0 0
 -- the answer of an accepted call
 abbrev pub listAnswer : Rules → Call → List Block → Answer
 listAnswer R clear bs = done
-listAnswer R (begin w b l) bs = done
+listAnswer R (begin h b l) bs = done
 listAnswer R (free x) bs = done
 listAnswer R (written a n) bs = done
 listAnswer R (ask a) bs = askOf a (find (contains a) bs)
-listAnswer R (valid a n from) bs = yesNo (any (λ b. holds a n b && contains from b) bs)
+listAnswer R (valid w a n from) bs = yesNo (any (λ b. holds a n b && contains from b && not (w && b .literal)) bs)
 listAnswer R (initialised a n) bs = yesNo (any (λ b. holds a n b && allWritten a n b) bs)
 listAnswer R (next a) bs = nextOf (find (λ b. leb a (b .base)) bs)
 listAnswer R audit bs = answer 0 (count (R .heap) bs) (count (λ a. not (R .heap a)) bs) (live bs) (blocks.written bs)

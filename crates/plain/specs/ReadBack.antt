@@ -12,14 +12,14 @@ use Rattle.plain.specs.Ops.{Ops, readAny}
 abbrev pub saysWritten : Reading → Bool
 saysWritten nothing = false
 saysWritten damaged = false
-saysWritten (block b l o m) = eqb m 1
+saysWritten (block b l o m t) = eqb m 1
 
--- what a reading adds to the blocks after it: with offset 0 a block, with the marks that the readings of its bytes tell
+-- what a reading adds to the blocks after it: with offset 0 a block, a literal if it says so, with the marks that the readings of its bytes tell
 abbrev pub told : (ℕ → Reading) → Reading → List Block → List Block
 told rd nothing bs = bs
 told rd damaged bs = bs
-told rd (block b l zero m) bs = record { base = b; marks = tab 0 l (λ i. saysWritten (rd (b + i))) } ∷ bs
-told rd (block b l (suc o) m) bs = bs
+told rd (block b l zero m t) bs = record { base = b; marks = tab 0 l (λ i. saysWritten (rd (b + i))); literal = t } ∷ bs
+told rd (block b l (suc o) m t) bs = bs
 
 -- the n addresses from a on
 unfoldable pub collect : (ℕ → Reading) → (a n : ℕ) → List Block

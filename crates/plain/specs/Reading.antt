@@ -1,5 +1,5 @@
 -- What a reading of an address tells, and what an audit tells; the plain list's own. Assumes nothing.
-use mathlib.Core.Bool.{not}
+use mathlib.Core.Bool.{Bool, not}
 use mathlib.Core.List.{List}
 use mathlib.Core.Option.{Option, none, some}
 use Prim.Native.Nat.{ℕ, _-_}
@@ -10,7 +10,8 @@ use Rattle.plain.specs.Rules.{Rules}
 
 pub data Reading : Type 0 where
   nothing : Reading
-  block : (base length offset written : ℕ) → Reading
+  -- the last: the block is a literal, which may not be written
+  block : (base length offset written : ℕ) (literal : Bool) → Reading
   damaged : Reading
 
 -- heap blocks, stack blocks, live bytes, written bytes
@@ -20,7 +21,7 @@ pub data Tally : Type 0 where
 -- what the block that holds an address says of it
 abbrev pub says : ℕ → Option Block → Reading
 says a none = nothing
-says a (some b) = block (b .base) (len b) (a - b .base) (bit (isWritten b a))
+says a (some b) = block (b .base) (len b) (a - b .base) (bit (isWritten b a)) (b .literal)
 
 -- the plain list's own reading of an address
 abbrev pub lookup : List Block → ℕ → Reading

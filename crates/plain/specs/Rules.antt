@@ -1,8 +1,9 @@
 -- What follows from the map alone: where blocks may stand. The placing rules of a list of blocks. Assumes nothing.
 use mathlib.Core.Path.{_≡_}
-use mathlib.Core.Bool.{Bool, true, _&&_}
+use mathlib.Core.Bool.{Bool, true, false, _&&_}
 use mathlib.Core.List.{List, [], _∷_}
 use Prim.Native.Nat.{ℕ, _+_, _≤_, _<_}
+use lib.ListN.{replicate}
 use lib.Dec.{ltb}
 use Rattle.plain.specs.Block.{Block, len}
 
@@ -25,8 +26,12 @@ pub record Rules : Type 0 where
 unfoldable pub meets : Rules → (base length : ℕ) → Block → Bool
 meets R b l c = ltb (R .low b l) (R .high (c .base) (len c)) && ltb (R .low (c .base) (len c)) (R .high b l)
 
--- a placed list keeps the placing rules: each block has a byte, fits and is aligned; the list is in address order, no footprint meets
--- another, and none begins below `from`
+-- a literal lies in the stack, and every byte of it is written
+abbrev pub Proper : Rules → Block → Type 0
+Proper R b = b .literal ≡ true → (R .heap (b .base) ≡ false) × (b .marks ≡ replicate (len b) true)
+
+-- a placed list keeps the placing rules: each block has a byte, fits and is aligned, and is proper if it is a literal; the list is in address
+-- order, no footprint meets another, and none begins below `from`
 abbrev pub Placed : Rules → (from : ℕ) → List Block → Type 0
 Placed R from [] = Unit {0}
 Placed R from (b ∷ bs) =
@@ -34,6 +39,7 @@ Placed R from (b ∷ bs) =
       some : 1 ≤ len b;
       fits : R .fits (b .base) (len b) ≡ true;
       aligned : R .aligned (b .base) ≡ true;
+      proper : Proper R b;
       room : from ≤ R .low (b .base) (len b);
       later : Placed R (R .high (b .base) (len b)) bs;
     }

@@ -15,45 +15,51 @@ use Rattle.plain.specs.Call.{Call, clear, begin, free, written, ask, val
 
 abbrev pub isDamaged : Reading → Bool
 isDamaged nothing = false
-isDamaged (block b l o m) = false
+isDamaged (block b l o m t) = false
 isDamaged damaged = true
 
 abbrev pub isBlock : Reading → Bool
 isBlock nothing = false
-isBlock (block b l o m) = true
+isBlock (block b l o m t) = true
 isBlock damaged = false
 
 -- a block's first byte
 abbrev pub isFirst : Reading → Bool
 isFirst nothing = false
-isFirst (block b l o m) = eqb o 0
+isFirst (block b l o m t) = eqb o 0
 isFirst damaged = false
 
 -- the reading of the first of n bytes gives a block in which they lie
 abbrev pub inOne : (n : ℕ) → Reading → Bool
 inOne n nothing = false
-inOne n (block b l o m) = leb (o + n) l
+inOne n (block b l o m t) = leb (o + n) l
 inOne n damaged = false
 
--- two readings give the same block
+-- a byte of a literal
+abbrev pub isLiteral : Reading → Bool
+isLiteral nothing = false
+isLiteral (block b l o m t) = t
+isLiteral damaged = false
+
+-- two readings give the same block: base and length are equal, whatever they say of its mark
 abbrev pub sameBlock : Reading → Reading → Bool
-sameBlock (block b l o m) (block b′ l′ o′ m′) = eqb b b′ && eqb l l′
-sameBlock (block b l o m) nothing = false
-sameBlock (block b l o m) damaged = false
+sameBlock (block b l o m t) (block b′ l′ o′ m′ t′) = eqb b b′ && eqb l l′
+sameBlock (block b l o m t) nothing = false
+sameBlock (block b l o m t) damaged = false
 sameBlock nothing r = false
 sameBlock damaged r = false
 
 abbrev pub lengthOf : Reading → ℕ
 lengthOf nothing = 0
-lengthOf (block b l o m) = l
+lengthOf (block b l o m t) = l
 lengthOf damaged = 0
 
 -- ---- the search for the next block: it climbs address by address and ends at the first reading with offset 0, or a damaged one
 
 abbrev pub stop : Reading → Reading → Reading
 stop nothing above = above
-stop (block b l zero m) above = block b l zero m
-stop (block b l (suc o) m) above = above
+stop (block b l zero m t) above = block b l zero m t
+stop (block b l (suc o) m t) above = above
 stop damaged above = damaged
 
 -- the n addresses from a on; nothing where no block begins there
@@ -70,12 +76,12 @@ isNone (some t) = false
 -- what an accepted call answers. Where there is no block, or damage, the call is refused, and this is not asked
 abbrev pub askAnswer : Reading → Answer
 askAnswer nothing = done
-askAnswer (block b l o m) = answer 0 b l o m
+askAnswer (block b l o m t) = answer 0 b l o m
 askAnswer damaged = done
 
 abbrev pub nextAnswer : Reading → Answer
 nextAnswer nothing = done
-nextAnswer (block b l o m) = answer 0 b l 0 0
+nextAnswer (block b l o m t) = answer 0 b l 0 0
 nextAnswer damaged = done
 
 abbrev pub auditAnswer : Option Tally → Answer
@@ -90,16 +96,16 @@ module _ {S : Type 0} (R : Rules) (O : Ops S) where
   abbrev pub search : S → ℕ → Reading
   search s a = climb (reading s) a (R .top - a)
 
-  -- the refusals that the shadows decide: 6 where the place is not zero, 8 where a reading is damaged, 7 where there is no such block. 8 is
-  -- tried before 7, which is never given where 8 holds
+  -- the refusals that the shadows decide: 6 where the place is not zero, 8 where a reading is damaged, 7 where there is no such block, 13
+  -- where it is a literal. 8 is tried before 7, which is never given where 8 holds
   abbrev pub byShadows : Call → S → List Refusal
   byShadows clear s = []
-  byShadows (begin w b l) s = (6, not (O .vacant s b l)) ∷ []
+  byShadows (begin h b l) s = (6, not (O .vacant s b l)) ∷ []
   byShadows (free zero) s = []
   byShadows (free (suc x)) s = (8, isDamaged (reading s (suc x))) ∷ (7, not (isFirst (reading s (suc x)))) ∷ []
-  byShadows (written a n) s = (8, isDamaged (reading s a)) ∷ (7, not (inOne n (reading s a))) ∷ []
+  byShadows (written a n) s = (8, isDamaged (reading s a)) ∷ (7, not (inOne n (reading s a))) ∷ (13, isLiteral (reading s a)) ∷ []
   byShadows (ask a) s = (8, isDamaged (reading s a)) ∷ (7, not (isBlock (reading s a))) ∷ []
-  byShadows (valid a n from) s = (8, isDamaged (reading s a) || isDamaged (reading s from)) ∷ []
+  byShadows (valid w a n from) s = (8, isDamaged (reading s a) || isDamaged (reading s from)) ∷ []
   byShadows (initialised a n) s = (8, isDamaged (reading s a)) ∷ []
   byShadows (next a) s = (8, isDamaged (search s a)) ∷ (7, not (isBlock (search s a))) ∷ []
   byShadows audit s = (8, isNone (O .audit s)) ∷ []
@@ -107,12 +113,12 @@ module _ {S : Type 0} (R : Rules) (O : Ops S) where
   -- the shadows after an accepted call
   abbrev pub shadowsAfter : Call → S → S
   shadowsAfter clear s = O .cleared
-  shadowsAfter (begin w b l) s = O .stamp s (begun w b l)
+  shadowsAfter (begin h b l) s = O .stamp s (begun h b l)
   shadowsAfter (free zero) s = s
   shadowsAfter (free (suc x)) s = O .erase s (suc x) (lengthOf (reading s (suc x)))
   shadowsAfter (written a n) s = markRange O s a n
   shadowsAfter (ask a) s = s
-  shadowsAfter (valid a n from) s = s
+  shadowsAfter (valid w a n from) s = s
   shadowsAfter (initialised a n) s = s
   shadowsAfter (next a) s = s
   shadowsAfter audit s = s
@@ -120,11 +126,11 @@ module _ {S : Type 0} (R : Rules) (O : Ops S) where
   -- the answer of an accepted call
   abbrev pub shadowAnswer : Call → S → Answer
   shadowAnswer clear s = done
-  shadowAnswer (begin w b l) s = done
+  shadowAnswer (begin h b l) s = done
   shadowAnswer (free x) s = done
   shadowAnswer (written a n) s = done
   shadowAnswer (ask a) s = askAnswer (reading s a)
-  shadowAnswer (valid a n from) s = yesNo (inOne n (reading s a) && sameBlock (reading s a) (reading s from))
+  shadowAnswer (valid w a n from) s = yesNo (inOne n (reading s a) && sameBlock (reading s a) (reading s from) && not (w && isLiteral (reading s a)))
   shadowAnswer (initialised a n) s = yesNo (inOne n (reading s a) && rangeMarked O s a n)
   shadowAnswer (next a) s = nextAnswer (search s a)
   shadowAnswer audit s = auditAnswer (O .audit s)

@@ -1,7 +1,14 @@
 // What the layouts answer, by positions. The theory of lists of blocks stands in specs/ and proofs/.
 use map::Position;
 
-// The reading of a position: base, length, offset, and 1 where the byte is written or else 0.
+// How a block begins: no byte written, every byte written, or as a literal, which is written and stays as it is.
+pub enum Beginning {
+    Unwritten,
+    Written,
+    Literal,
+}
+
+// The reading of a position: base, length, offset, and two bits: 1 where the byte is written, 2 where its block is a literal.
 pub enum Reading {
     Nothing,
     Block(Position, u32, u32, u8),

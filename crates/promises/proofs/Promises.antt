@@ -12,7 +12,10 @@ use Rattle.demands.proofs.Rest.{rest-zero}
 use Rattle.demands.proofs.Demand3.{on-every-image, runs-each-call, whole-run, no-damage, cleared-run, stays-placed}
 use Rattle.demands.proofs.Begun.{answers-of-record, record-then-written, list-then-written, list-starts}
 use Rattle.demands.proofs.Null.{null-outside, no-block-at-null, free-of-null, free-outside}
-use Rattle.demands.proofs.Samples.{samples-hold, damage-samples-hold}
+use Rattle.demands.proofs.Literals.{read-exactly, write-exactly, written-refused, literal-stays}
+use Rattle.demands.proofs.LiteralBits.{bit-one, audit-wants}
+use Rattle.demands.proofs.LiteralBegun.{literal-answers, literal-bytes, literal-elsewhere}
+use Rattle.demands.proofs.Samples.{samples-hold, literal-samples-hold, damage-samples-hold}
 use Rattle.demands.proofs.MapSamples.{map-samples-hold}
 use Rattle.demands_origins.proofs.Demand1 as origins
 use Rattle.demands_origins.proofs.Demand3 as origins-runs
@@ -24,7 +27,7 @@ use Rattle.demands_origins.proofs.Samples as origins-samples
 use Rattle.calls_format.proofs.RunningLaws.{same-run, never-damaged}
 use Rattle.calls_format.proofs.NewMapSamples.{new-map-samples-hold}
 use Rattle.calls_format.proofs.ProgramLaws.{plain-whole}
-use Rattle.demands_calls.proofs.Programs.{kinds-told, own-kinds, others-as-plain, serves-calls, serves-maps}
+use Rattle.demands_calls.proofs.Programs.{kinds-told, kinds-decode, own-kinds, others-as-plain, serves-calls, serves-maps}
 use Rattle.demands_calls.proofs.Files.{files-hold}
 use Rattle.calls_file.proofs.FileLaws.{whole-file}
 use Rattle.calls_origins_format.proofs.RunningLaws as origins-program
@@ -110,7 +113,17 @@ promises =
       judged-by-history = judged-by-history;
       counter-counts = counter-counts;
       origins-samples-hold = origins-samples.samples-hold;
+      read-exactly = read-exactly;
+      write-exactly = write-exactly;
+      bit-one = bit-one;
+      audit-wants = audit-wants;
+      written-refused = written-refused;
+      literal-stays = literal-stays;
+      literal-answers = literal-answers;
+      literal-bytes = literal-bytes;
+      literal-elsewhere = literal-elsewhere;
       samples-hold = samples-hold;
+      literal-samples-hold = literal-samples-hold;
       map-samples-hold = map-samples-hold;
       damage-samples-hold = damage-samples-hold;
       same-run = same-run;
@@ -124,6 +137,7 @@ promises =
       origins-record-samples-hold = origins-taken.record-samples-hold;
       origins-new-map-samples-hold = origins-taken.new-map-samples-hold;
       kinds-told = kinds-told;
+      kinds-decode = kinds-decode;
       own-kinds = own-kinds;
       others-as-plain = others-as-plain;
       serves-calls = serves-calls;

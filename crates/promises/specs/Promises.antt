@@ -11,7 +11,9 @@ use Rattle.demands.specs.Demand2.{AskReads, NineBytes, ImageShape, RestZero, On
 use Rattle.demands.specs.Demand3.{RunsEachCall, WholeRun, NoDamage, ClearedRun, OnEveryImage, StaysPlaced}
 use Rattle.demands.specs.Begun.{AnswersOfRecord, RecordThenWritten, ListThenWritten, ListStarts}
 use Rattle.demands.specs.Null.{NullOutside, NoBlockAtNull, FreeOfNull, FreeOutside}
+use Rattle.demands.specs.Literals.{ReadExactly, WriteExactly, BitOne, AuditWants, WrittenRefused, LiteralStays, LiteralAnswers, LiteralBytes, LiteralElsewhere}
 use Rattle.demands.specs.Samples.{SamplesHold}
+use Rattle.demands.specs.LiteralSamples.{LiteralSamplesHold}
 use Rattle.demands.specs.MapSamples.{MapSamplesHold}
 use Rattle.demands.specs.DamageSamples.{DamageSamplesHold}
 use Rattle.demands_origins.specs.Demand1 as origins
@@ -25,7 +27,7 @@ use Rattle.calls_format.specs.Running.{SameRun, NeverDamaged}
 use Rattle.calls_format.specs.NewMapSamples.{NewMapSamplesHold}
 use Rattle.calls_format.specs.Program.{plainProgram}
 use Rattle.calls_file.specs.File.{WholeFile}
-use Rattle.demands_calls.specs.Programs.{KindsTold, OwnKinds, OthersAsPlain, ServesCalls, ServesMaps}
+use Rattle.demands_calls.specs.Programs.{KindsTold, KindsDecode, OwnKinds, OthersAsPlain, ServesCalls, ServesMaps}
 use Rattle.demands_calls.specs.Files.{FilesHold}
 use Rattle.calls_origins_format.specs.Running as origins-program
 use Rattle.calls_origins_format.specs.Samples as origins-taken
@@ -44,7 +46,7 @@ pub record Promises : Type 0 where
   pub record-stamps : RecordStamps
   pub free-zeroes : FreeZeroes
   pub written-marks : WrittenMarks
-  -- record: all bytes start unwritten; S-1: a block whose bytes all count as written
+  -- record: all bytes start unwritten; S-1: a block whose bytes all count as written; S-5: and bit 1 of each primary byte set
   pub bytes-start : BytesStart
   -- every field that an accepted call answers, out of readings and written bits, on any shadows (Told.antt)
   pub answers-read : AnswersRead
@@ -73,7 +75,8 @@ pub record Promises : Type 0 where
 
   -- readings follow the encodings, for all bytes
   pub ask-reads : AskReads
-  -- a block that is read, on any shadows, holds the address at its offset, fits its area, and has the address's written bit (Told.antt)
+  -- a block that is read, on any shadows, holds the address at its offset, fits its area, has the address's written bit, and is a literal if bit 1
+  -- of the address is set (Told.antt)
   pub blocks-read : BlocksRead
   -- on nine bytes at most
   pub nine-bytes : NineBytes
@@ -81,7 +84,7 @@ pub record Promises : Type 0 where
   pub image-shape : ImageShape
   -- bytes 5 to 7 of a segment, and the secondary bytes that hold no length and no offset, are zero
   pub rest-zero : RestZero
-  -- each placeable list of blocks has one image, and no other list has the same
+  -- each placeable list of blocks, written bytes and literals included, has one image, and no other list has the same
   pub one-image : OneImage
   -- audit accepts exactly the images, with the list's totals: it accepts each, it accepts nothing else, and what is no image gets 8
   pub audit-accepts : AuditAccepts
@@ -113,7 +116,7 @@ pub record Promises : Type 0 where
   -- it leaves what record and then written of the whole block leave, on any shadows and on the plain list
   pub record-then-written : RecordThenWritten
   pub list-then-written : ListThenWritten
-  -- on the plain list, the block joins with base and length, no byte written, or every byte
+  -- on the plain list, the block joins with base and length, no byte written, or every byte, and may be written or not
   pub list-starts : ListStarts
   -- ---- S-2: free of address 0 (Null.antt)
 
@@ -169,10 +172,28 @@ pub record Promises : Type 0 where
   pub counter-counts : CounterCounts
   -- samples: the first counter, the bytes of a number, numbers at their edges, runs (Samples.antt)
   pub origins-samples-hold : origins-samples.SamplesHold
-  -- ---- samples (Samples.antt, MapSamples.antt, DamageSamples.antt, ByteSamples.antt)
+  -- ---- S-5: text that may only be read (Literals.antt). Its mark is in every statement above too: of blocks, readings, images and runs
+
+  -- on every image valid_read answers 1 exactly if one block holds from and all n bytes, valid exactly if that block is no literal besides
+  pub read-exactly : ReadExactly
+  pub write-exactly : WriteExactly
+  -- a set bit 1 is damage only with code 0, and else changes a reading's mark alone, whatever the bytes
+  pub bit-one : BitOne
+  -- audit wants it equal over a block, and each byte written where it is set
+  pub audit-wants : AuditWants
+  -- written into a literal is 13, after 3 and 7, whatever the bytes; and on every image no call but clear and free of its base ends or alters one
+  pub written-refused : WrittenRefused
+  pub literal-stays : LiteralStays
+  -- at a stack base kind 14 answers as kind 10 and leaves its bytes with 2 added to each primary byte of the block; elsewhere it is 3 or 4
+  pub literal-answers : LiteralAnswers
+  pub literal-bytes : LiteralBytes
+  pub literal-elsewhere : LiteralElsewhere
+  -- ---- samples (Samples.antt, LiteralSamples.antt, MapSamples.antt, DamageSamples.antt, ByteSamples.antt)
 
   -- the marked samples, the worked example, edges, blocks that begin written, and numbers above 255
   pub samples-hold : SamplesHold
+  -- literals: their bytes, and what each call makes of them
+  pub literal-samples-hold : LiteralSamplesHold
   -- each rule of a map broken alone and at its edge, and each length of a shadow
   pub map-samples-hold : MapSamplesHold
   -- each clause of "damaged if", every byte of the numbers, what each call makes of damage, and bytes that do not agree
@@ -204,11 +225,13 @@ pub record Promises : Type 0 where
 
   -- a line has the kind of its record, whose length is the one that it says
   pub kinds-told : KindsTold
+  -- what each plain kind decodes to, by its fields, S-5's 14 and 15 among them, and of which length
+  pub kinds-decode : KindsDecode
   -- only in the form with origins do kinds 11 to 13 decode, 12 bytes each, and every other record as in the plain program
   pub own-kinds : OwnKinds
   pub others-as-plain : OthersAsPlain
   -- a call is served as the library's; an accepted map clears and leaves the counter, a refused one keeps all
   pub serves-calls : ServesCalls
   pub serves-maps : ServesMaps
-  -- samples: what two files print, every kind's line among them
+  -- samples: what files print, every kind's line among them
   pub files-hold : FilesHold

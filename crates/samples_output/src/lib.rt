@@ -30,7 +30,7 @@ pub fn write_answer(kind: u32, r: Answer) {
     write(b" =>");
     spaced(r.number);
     match kind {
-        6 | 7 | 13 => spaced(r.first),
+        6 | 7 | 13 | 15 => spaced(r.first),
         8 => {
             spaced(r.first);
             spaced(r.second);

@@ -29,6 +29,7 @@ fn changing(found: Named, line: &[u8]) -> Named
 {
     let mut found = or(found, line, b"record", 2);
     found = or(found, line, b"record_written", 10);
+    found = or(found, line, b"record_literal", 14);
     found = or(found, line, b"free", 3);
     or(found, line, b"written", 4)
 }
@@ -39,6 +40,7 @@ fn reading(found: Named, line: &[u8]) -> Named
 {
     let mut found = or(found, line, b"ask", 5);
     found = or(found, line, b"valid", 6);
+    found = or(found, line, b"valid_read", 15);
     found = or(found, line, b"initialised", 7);
     found = or(found, line, b"next", 8);
     or(found, line, b"audit", 9)

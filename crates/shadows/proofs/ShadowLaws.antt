@@ -2,7 +2,7 @@
 use mathlib.Core.Path.{_≡_}
 use mathlib.Core.Bool.{true, _&&_}
 use mathlib.Core.List.{List}
-use Prim.Native.Nat.{ℕ}
+use Prim.Native.Nat.{ℕ, _-_}
 use native.Mathlib.Omega.{arith}
 use lib.ListN.{length}
 use lib.Dec.{eqb}
@@ -13,15 +13,16 @@ use Rattle.map.specs.declared.Map.{Map}
 use Rattle.map.specs.Map.{goodMap}
 use Rattle.map.proofs.MapLaws.{Good, good-true}
 use Rattle.plain.specs.Block.{Block}
-use Rattle.plain.specs.Rules.{Rules, Sound}
+use Rattle.plain.specs.Rules.{Rules, Placed, Sound}
 use Rattle.plain.specs.Areas.{heapRules, stackRules, mapRules}
 use Rattle.plain.specs.Images.{Images, Scanned}
 use Rattle.plain.specs.Lift.{liftOps, downs}
-use Rattle.plain.specs.Join.{Separate}
+use Rattle.plain.specs.Join.{Separate, only}
 use Rattle.plain.proofs.AreaLaws.{ranges-separate, heap-sound, heap-shifted, heap-unshifted, heap-ranged, stack-sound, stack-shifted, stack-unshifted, stack-ranged}
-use Rattle.plain.proofs.LiftLaws.{lift-images, lift-scanned}
+use Rattle.plain.proofs.LiftLaws.{lift-placed, lift-images, lift-scanned}
+use Rattle.plain.proofs.OnlyLaws.{only-placed}
 use Rattle.plain.proofs.StampedLaws.{Stamped, lift-stamped, join-stamped}
-use Rattle.plain.proofs.JoinLaws.{join-sound, join-images, join-scanned}
+use Rattle.plain.proofs.JoinLaws.{join-sound, part-b, join-images, join-scanned}
 use Rattle.heap_layout.specs.Image.{heapImage}
 use Rattle.heap_layout.specs.Ops.{heapOps}
 use Rattle.heap_layout.proofs.StampedLaws.{heap-stamped}
@@ -94,6 +95,14 @@ module _ (m : Map) (ok : goodMap m ≡ true) where
 
   pub map-sound : Sound (mapRules m)
   map-sound = join-sound H K heaps stacks separate
+
+  -- the stack's blocks among all, by positions
+  pub stack-placed : (bs : List Block) → Placed (mapRules m) 0 bs
+      → Placed (stackRules 0 (m .«stack_size»)) 0 (downs (m .«stack_start») (only (stackRules (m .«stack_start») (m .«stack_size») .inside) bs))
+  stack-placed bs P =
+      let z : 0 - ss ≡ 0 = omega arith in
+      rw z at (lift-placed ss K (stackRules 0 sz) stacks (stack-shifted ss sz) (only (K .inside) bs) 0
+      (only-placed (mapRules m) K map-sound (part-b H K heaps stacks separate) bs 0 P))
 
   pub shadow-images : Images (mapRules m) (shadowOps m) (image m)
   shadow-images =

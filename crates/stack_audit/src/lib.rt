@@ -14,18 +14,20 @@ use stack_audit_laws::Walk;
 use stack_audit_runs::ahead;
 use stack_audit_walk::after;
 use stack_audit_walk::current;
+use stack_audit_walk::literal_at;
 use stack_audit_walk::past;
 use stack_audit_walk::stands;
 use stack_audit_zeros::clear_to;
 
-// The turn past the one byte at q, of a block of length k, or of none where k is 0.
-fn one(primary: &[u8], secondary: &[u8], q: Position, w: Walk, k: u32) -> Moved
-    requires { ⌜ Stands (now primary) (now secondary) (q .0) w × (k ≡ turn.current (length (now primary)) (at (now primary)) (at (now secondary)) (q .0) (w .len)) ⌝ }
+// The turn past the one byte at q, of a block of length k, a literal or not, or of none where k is 0.
+fn one(primary: &[u8], secondary: &[u8], q: Position, w: Walk, k: u32, literal: bool) -> Moved
+    requires { ⌜ Stands (now primary) (now secondary) (q .0) w × (k ≡ turn.current (length (now primary)) (at (now primary)) (at (now secondary)) (q .0) (w .len))
+        × (literal ≡ turn.literalAt (at (now primary)) (q .0) (w .i)) ⌝ }
     ensures { λ r. ⌜ Turned (now (primary .entry)) (now (secondary .entry)) (q .0) w r ⌝ }
 {
     let Position(at) = q;
     let x = primary[at];
-    if !stands(x, secondary[at], k, w.i) {
+    if !stands(x, secondary[at], k, w.i, literal) {
         return Moved::NoImage;
     }
     Moved::On(after(w, k, x & 1), 1)
@@ -37,6 +39,7 @@ fn turn(primary: &[u8], secondary: &[u8], q: Position, w: Walk) -> Moved
     ensures { λ r. ⌜ Turned (now (primary .entry)) (now (secondary .entry)) (q .0) w r ⌝ }
 {
     let k = current(primary, secondary, q, w.len);
+    let literal = literal_at(primary, q, w.i);
     if k == 0 {
         let Position(at) = q;
         let Position(end) = clear_to(primary, secondary, q);
@@ -44,13 +47,13 @@ fn turn(primary: &[u8], secondary: &[u8], q: Position, w: Walk) -> Moved
             return Moved::On(w, end - at);
         }
     } else {
-        let r = ahead(primary, secondary, q, k, w.i);
+        let r = ahead(primary, secondary, q, k, w.i, literal);
         let n = r.n;
         if n != 0 {
             return Moved::On(past(w, k, n as u32, r.written), n);
         }
     }
-    one(primary, secondary, q, w, k)
+    one(primary, secondary, q, w, k, literal)
 }
 
 // The totals of the blocks of which the shadows are the image, or no image.

@@ -1,8 +1,10 @@
 // What each byte of a block has in the shadows.
 ghost use mathlib.Core.Path.{_≡_};
-ghost use Prim.Native.Nat.{_+_, _-_, _<_, _≤_};
+ghost use mathlib.Core.Bool.{_||_};
+ghost use Prim.Native.Nat.{_+_, _-_, _%_, _<_, _≤_};
+ghost use lib.Dec.{eqb};
 ghost use Rattle.number.specs.Little.{byteOf};
-ghost use Rattle.stack_layout.specs.Code.{pieceOf, codeOf, secondaryOf, shortLength};
+ghost use Rattle.stack_layout.specs.Code.{pieceOf, codeOf, lowBits, secondaryOf, shortLength};
 
 // The offset of the piece that holds byte i of a long block.
 pub fn piece_of(len: u32, i: u32) -> u32
@@ -55,6 +57,13 @@ pub fn code_at(len: u32, i: u32) -> u8
         return (stack_table::codes_below(len) + i + 1) as u8;
     }
     (48 + (i - piece_of(len, i))) as u8
+}
+
+// The low bits that a primary byte x must have: both in a literal, else its own written bit alone.
+pub fn low_bits(x: u8, literal: bool) -> u8
+    ensures { λ r. ⌜ (r ≡ lowBits literal (literal || eqb (x % 2) 1)) × (r < 4) ⌝ }
+{
+    if literal { 3 } else { x & 1 }
 }
 
 // Byte j of a number.

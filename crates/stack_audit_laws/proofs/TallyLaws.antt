@@ -20,10 +20,10 @@ beside-on b l m t (got ms bs) =
     let v : m + (bit t + ones ms + written bs) ≡ m + bit t + (ones ms + written bs) = omega arith in
     rw (u, v)
 
-pub beside-begins : (b l m q : ℕ) (t : Bool) (f : Found) → beside b l m (begins q (goesOn (t ∷ []) f)) ≡ beside (b + 1) (l + 1) (m + bit t) f
+pub beside-begins : (b l m q : ℕ) (u t : Bool) (f : Found) → beside b l m (begins q u (goesOn (t ∷ []) f)) ≡ beside (b + 1) (l + 1) (m + bit t) f
 unfolding beside ones total
-beside-begins b l m q t bad = refl
-beside-begins b l m q t (got ms bs) =
+beside-begins b l m q u t bad = refl
+beside-begins b l m q u t (got ms bs) =
     let c : b + (1 + count (λ a. true) bs) ≡ b + 1 + count (λ a. true) bs = omega arith in
     let u : l + (0 + (suc (length ms) + live bs)) ≡ l + 1 + (length ms + live bs) = omega arith in
     let v : m + (0 + (bit t + ones ms + written bs)) ≡ m + bit t + (ones ms + written bs) = omega arith in
@@ -40,9 +40,9 @@ pub data Unmarked : Found → Type 0 where
   no : Unmarked bad
   yes : {bs : List Block} → Unmarked (got [] bs)
 
-pub begins-unmarked : (q : ℕ) (f : Found) → Unmarked (begins q f)
-begins-unmarked q bad = no
-begins-unmarked q (got ms bs) = yes
+pub begins-unmarked : (q : ℕ) (u : Bool) (f : Found) → Unmarked (begins q u f)
+begins-unmarked q u bad = no
+begins-unmarked q u (got ms bs) = yes
 
 pub totals-beside : (size : ℕ) {f : Found} → Unmarked f → totals (stackRules 0 size) f ≡ beside 0 0 0 f
 unfolding beside ones

@@ -1,13 +1,13 @@
 -- A turn of the audit's loop is a step of the layout's walk. Assumes nothing.
 use mathlib.Core.Path.{_≡_, refl, sym, ap, _∙_}
 use mathlib.Core.Logic.{_⊎_, inl, inr}
-use mathlib.Core.Bool.{Bool, true, false, cond, _&&_}
+use mathlib.Core.Bool.{Bool, true, false, cond, _&&_, _||_}
 use mathlib.Core.List.{[], _∷_}
 use mathlib.Core.Option.{Option, none}
 use Prim.Native.Nat.{ℕ, zero, suc, _+_, _-_, _*_, _/_, _%_, _≤_, _<_, max}
 use native.Mathlib.Omega.{arith}
 use native.Mathlib.Numerals.{add-one}
-use native.Mathlib.Nat.{add-zero, mod-lt}
+use native.Mathlib.Nat.{add-zero, sub-zero, mod-lt}
 use lib.Dec.{leb, eqb, lit<}
 use borrow.Author.Tests.{ne-eqb, le-leb, lt-leb, eqb-true, eqb-false, leb-true, leb-false}
 use Rattle.number.specs.Bits.{bit}
@@ -17,10 +17,11 @@ use Rattle.number.proofs.BitLaws.{bit-test}
 use Rattle.plain.specs.Reading.{Tally}
 use Rattle.plain.specs.Areas.{stackRules}
 use Rattle.plain.specs.Found.{Found, bad, goesOn, begins, totals}
-use Rattle.stack_layout.specs.Code.{shortCode, codeOf, primaryOf, secondaryOf, lengthFrom, shortLength}
-use Rattle.stack_layout.specs.Walk.{isClear, isByte, lengthAt, stackWalk}
+use Rattle.stack_layout.specs.Code.{shortCode, codeOf, lowBits, primaryOf, secondaryOf, lengthFrom, shortLength}
+use Rattle.stack_layout.specs.Walk.{isClear, isMarked, saysLiteral, isByte, lengthAt, stackWalk}
+use Rattle.stack_layout.proofs.CodeLaws.{low-lt}
 use Rattle.stack_audit_laws.specs.declared.Walk.{Walk}
-use Rattle.stack_audit_laws.specs.Turn.{told, current, stands, past, after}
+use Rattle.stack_audit_laws.specs.Turn.{told, current, literalAt, stands, past, after}
 use Rattle.stack_audit_laws.specs.Rest.{beside, ahead}
 use Rattle.stack_laws.proofs.CodeLaws.{short-small}
 use Rattle.stack_audit_laws.proofs.TallyLaws.{beside-on, beside-begins, Unmarked, no, yes, begins-unmarked, totals-beside}
@@ -51,31 +52,33 @@ counted b K k true = omega arith
 counted b K k false = rw k (omega arith)
 
 module _ (size : ℕ) (pr se : ℕ → ℕ) where
-  -- where no block goes on the offset is of no account, and no marks are found
-  idle : (n q i : ℕ) → stackWalk size pr se n q 0 i ≡ stackWalk size pr se n q 0 0
+  -- where no block goes on the offset and the mark are of no account, and no marks are found
+  pub idle : (n q i : ℕ) (t : Bool) → stackWalk size pr se n q 0 i t ≡ stackWalk size pr se n q 0 0 false
   unfolding stackWalk
-  idle zero q i = refl
-  idle (suc n) q i = refl
+  idle zero q i t = refl
+  idle (suc n) q i t = refl
 
   -- a block of length L goes on past its byte i at q
-  abbrev onward : (n q L i : ℕ) → Found
-  onward n q L i = goesOn (eqb (pr q % 2) 1 ∷ []) (stackWalk size pr se n (suc q) (cond (leb L (suc i)) 0 L) (suc i))
+  abbrev onward : (n q L i : ℕ) (t : Bool) → Found
+  onward n q L i t = goesOn (isMarked size pr se q ∷ []) (stackWalk size pr se n (suc q) (cond (leb L (suc i)) 0 L) (suc i) t)
 
   -- a block begins at q
   beginsAt : (q : ℕ) → Bool
-  beginsAt q = let H = lengthAt size pr se q in leb 1 H && leb (q + H) size && isByte size pr se q H 0
+  beginsAt q = let H = lengthAt size pr se q in leb 1 H && leb (q + H) size && isByte size pr se q H 0 (saysLiteral size pr se q)
 
-  unmarked : (n q : ℕ) → Unmarked (stackWalk size pr se n q 0 0)
+  unmarked : (n q : ℕ) → Unmarked (stackWalk size pr se n q 0 0 false)
   unfolding stackWalk beginsAt
   unmarked zero q = yes
-  unmarked (suc n) q = go (isClear size pr se q) (beginsAt q) (unmarked n (suc q)) (begins-unmarked q (onward n q (lengthAt size pr se q) 0))
+  unmarked (suc n) q =
+      let u = saysLiteral size pr se q in
+      go (isClear size pr se q) (beginsAt q) (unmarked n (suc q)) (begins-unmarked q u (onward n q (lengthAt size pr se q) 0 u))
     where
       go : (c t : Bool) {f g : Found} → Unmarked f → Unmarked g → Unmarked (cond c f (cond t g bad))
       go true t F G = F
       go false true F G = G
       go false false F G = no
 
-  pub start : (n q : ℕ) → totals (stackRules 0 size) (stackWalk size pr se n q 0 0) ≡ beside 0 0 0 (stackWalk size pr se n q 0 0)
+  pub start : (n q : ℕ) → totals (stackRules 0 size) (stackWalk size pr se n q 0 0 false) ≡ beside 0 0 0 (stackWalk size pr se n q 0 0 false)
   start n q = totals-beside size (unmarked n q)
 
   -- a clear byte tells no length
@@ -91,12 +94,14 @@ module _ (size : ℕ) (pr se : ℕ → ℕ) where
   no-room q a b =
       false-of (beginsAt q)
       (λ e. let H = lengthAt size pr se q in
-      let t = and-true (leb 1 H && leb (q + H) size) (isByte size pr se q H 0) e in
+      let u = saysLiteral size pr se q in
+      let m = lowBits u (u || isMarked size pr se q) in
+      let t = and-true (leb 1 H && leb (q + H) size) (isByte size pr se q H 0 u) e in
       let f : q + H ≤ size = leb-true (q + H) size (and-true (leb 1 H) (leb (q + H) size) (t .0) .1) in
-      let x : pr q ≡ primaryOf H 0 (pr q % 2) = eqb-true (pr q) (primaryOf H 0 (pr q % 2)) (and-true (eqb (pr q) (primaryOf H 0 (pr q % 2))) (eqb (se q) (secondaryOf H 0)) (t .1) .0) in
+      let x : pr q ≡ primaryOf H 0 m = eqb-true (pr q) (primaryOf H 0 m) (and-true (eqb (pr q) (primaryOf H 0 m)) (eqb (se q) (secondaryOf H 0)) (t .1) .0) in
       let s : H ≤ 8 = omega arith in
       let c : codeOf H 0 ≡ H * (H - 1) / 2 + 0 + 1 = rw (le-leb H 8 s) in
-      omega (arith, short-small H s))
+      omega (arith, short-small H s, low-lt u (u || isMarked size pr se q)))
 
   -- the code asks for the length as the walk does, but where there is no room for it
   told-same : (q : ℕ) → (told size pr se q ≡ lengthAt size pr se q) ⊎ ((told size pr se q ≡ 0) × (beginsAt q ≡ false))
@@ -110,69 +115,87 @@ module _ (size : ℕ) (pr se : ℕ → ℕ) where
       go (is-false a) (is-false b) = inr (rw (a, b), no-room q (leb-false (pr q / 4) 36 a) (leb-false (q + 9) size b))
 
   -- a step where no block goes on, as the code takes it
-  open-step : (n q i : ℕ) → (let K = current size pr se q 0 in
-      stackWalk size pr se (suc n) q 0 i
-      ≡ cond (stands (pr q) (se q) K 0) (cond (eqb K 0) (stackWalk size pr se n (suc q) 0 0) (begins q (onward n q K 0))) bad)
+  open-step : (n q i : ℕ) (t : Bool) → (let K = current size pr se q 0 in
+      let u = saysLiteral size pr se q in
+      stackWalk size pr se (suc n) q 0 i t
+      ≡ cond (stands (pr q) (se q) K 0 u) (cond (eqb K 0) (stackWalk size pr se n (suc q) 0 0 false) (begins q u (onward n q K 0 u))) bad)
   unfolding stackWalk beginsAt current stands isClear isByte
-  open-step n q i =
-      open-cases size q (lengthAt size pr se q) (told size pr se q) (isClear size pr se q) (λ k. isByte size pr se q k 0)
-      (stackWalk size pr se n (suc q) 0 0) bad (λ k. begins q (onward n q k 0)) (clear-none q) (told-same q)
+  open-step n q i t =
+      let u = saysLiteral size pr se q in
+      open-cases size q (lengthAt size pr se q) (told size pr se q) (isClear size pr se q) (λ k. isByte size pr se q k 0 u)
+      (stackWalk size pr se n (suc q) 0 0 false) bad (λ k. begins q u (onward n q k 0 u)) (clear-none q) (told-same q)
 
   -- and where one does
-  on-step : (n q L i : ℕ) → (L ≡ 0 → ⊥) → stackWalk size pr se (suc n) q L i ≡ cond (stands (pr q) (se q) L i) (onward n q L i) bad
+  on-step : (n q L i : ℕ) (t : Bool) → (L ≡ 0 → ⊥) → stackWalk size pr se (suc n) q L i t ≡ cond (stands (pr q) (se q) L i t) (onward n q L i t) bad
   unfolding stackWalk stands isByte
-  on-step n q L i h = rw (ne-eqb L 0 h)
+  on-step n q L i t h = rw (ne-eqb L 0 h)
 
   -- past a block's last byte the code counts from 0 again
-  reset : (n q K i : ℕ) → stackWalk size pr se n q (cond (leb K (i + 1)) 0 K) (cond (leb K (i + 1)) 0 (i + 1)) ≡ stackWalk size pr se n q (cond (leb K (suc i)) 0 K) (suc i)
+  reset : (n q K i : ℕ) → stackWalk size pr se n (suc q) (cond (leb K (i + 1)) 0 K) (cond (leb K (i + 1)) 0 (i + 1)) (literalAt pr (suc q) (cond (leb K (i + 1)) 0 (i + 1)))
+      ≡ stackWalk size pr se n (suc q) (cond (leb K (suc i)) 0 K) (suc i) (literalAt pr q i)
+  unfolding literalAt
   reset n q K i = rw (add-one i) (go (leb K (suc i)))
     where
-      go : (t : Bool) → stackWalk size pr se n q (cond t 0 K) (cond t 0 (suc i)) ≡ stackWalk size pr se n q (cond t 0 K) (suc i)
-      go true = sym (idle n q (suc i))
-      go false = refl
+      go : (c : Bool) → stackWalk size pr se n (suc q) (cond c 0 K) (cond c 0 (suc i)) (literalAt pr (suc q) (cond c 0 (suc i)))
+          ≡ stackWalk size pr se n (suc q) (cond c 0 K) (suc i) (literalAt pr q i)
+      go true = idle n (suc q) 0 (literalAt pr (suc q) 0) ∙ sym (idle n (suc q) (suc i) (literalAt pr q i))
+      go false = let e : suc q - suc i ≡ q - i = omega arith in rw e
 
   -- what is ahead beyond byte i of a block of length K at q, however the walk goes on
   beyond : (n q : ℕ) → Walk → (K : ℕ) → Option Tally
-  beyond n q w K = beside (w .blocks + 1) (w .live + 1) (w .written + pr q % 2) (stackWalk size pr se n (suc q) (cond (leb K (suc (w .i))) 0 K) (suc (w .i)))
+  beyond n q w K =
+      beside (w .blocks + 1) (w .live + 1) (w .written + pr q % 2)
+      (stackWalk size pr se n (suc q) (cond (leb K (suc (w .i))) 0 K) (suc (w .i)) (literalAt pr q (w .i)))
 
   beyond-after : (n q : ℕ) (w : Walk) (K : ℕ) → eqb K 0 ≡ false → ahead size pr se n (suc q) (after w K (pr q % 2)) ≡ beyond n q w K
   unfolding ahead after past beyond
-  beyond-after n q w K k = rw (k, counted (w .blocks) K k (leb K (w .i + 1))) (ap (beside (w .blocks + 1) (w .live + 1) (w .written + pr q % 2)) (reset n (suc q) K (w .i)))
+  beyond-after n q w K k = rw (k, counted (w .blocks) K k (leb K (w .i + 1))) (ap (beside (w .blocks + 1) (w .live + 1) (w .written + pr q % 2)) (reset n q K (w .i)))
 
   low-bit : (q : ℕ) → bit (eqb (pr q % 2) 1) ≡ pr q % 2
   low-bit q = bit-test (pr q % 2) (mod-lt (pr q) (lit< tt))
 
+  -- where no block goes on, the one that would begin at q is told by the byte there
+  first-tells : (q : ℕ) → literalAt pr q 0 ≡ saysLiteral size pr se q
+  unfolding literalAt
+  first-tells q = rw (sub-zero q)
+
   -- a turn where no block goes on
-  turn-open : (n q : ℕ) (w : Walk) (K : ℕ) → w .len ≡ 0 → w .i ≡ 0 → K ≡ current size pr se q 0 → Test (stands (pr q) (se q) K (w .i)) → Test (eqb K 0)
-      → ahead size pr se (suc n) q w ≡ cond (stands (pr q) (se q) K (w .i)) (ahead size pr se n (suc q) (after w K (pr q % 2))) none
+  turn-open : (n q : ℕ) (w : Walk) (K : ℕ) (t : Bool) → w .len ≡ 0 → w .i ≡ 0 → K ≡ current size pr se q 0 → t ≡ literalAt pr q 0
+      → Test (stands (pr q) (se q) K (w .i) t) → Test (eqb K 0)
+      → ahead size pr se (suc n) q w ≡ cond (stands (pr q) (se q) K (w .i) t) (ahead size pr se n (suc q) (after w K (pr q % 2))) none
   unfolding ahead after past beyond beside
-  turn-open n q w K z y x (is-false s) k =
-      let s′ : stands (pr q) (se q) K 0 ≡ false = rw y at s in
-      rw (z, y, open-step n q 0, ← x, s′)
-  turn-open n q w K z y x (is-true s) (is-true k) =
-      let s′ : stands (pr q) (se q) K 0 ≡ true = rw y at s in
-      rw (k, z, y, open-step n q 0, ← x, s′, k)
-  turn-open n q w K z y x (is-true s) (is-false k) =
-      let s′ : stands (pr q) (se q) K 0 ≡ true = rw y at s in
-      let l : ahead size pr se (suc n) q w ≡ beyond n q w K = rw (z, y, open-step n q 0, ← x, s′, k, beside-begins, low-bit q, add-zero) in
+  turn-open n q w K t z y x u (is-false s) k =
+      let s′ : stands (pr q) (se q) K 0 t ≡ false = rw y at s in
+      rw (z, y, open-step n q 0 (literalAt pr q 0), ← x, ← first-tells q, ← u, s′)
+  turn-open n q w K t z y x u (is-true s) (is-true k) =
+      let s′ : stands (pr q) (se q) K 0 t ≡ true = rw y at s in
+      rw (k, z, y, open-step n q 0 (literalAt pr q 0), ← x, ← first-tells q, ← u, s′, k, idle n (suc q) 0 (literalAt pr (suc q) 0))
+  turn-open n q w K t z y x u (is-true s) (is-false k) =
+      let s′ : stands (pr q) (se q) K 0 t ≡ true = rw y at s in
+      let l : ahead size pr se (suc n) q w ≡ beyond n q w K =
+      rw (z, y, open-step n q 0 (literalAt pr q 0), ← x, ← first-tells q, ← u, s′, k, beside-begins, low-bit q, add-zero) in
       rw s (l ∙ sym (beyond-after n q w K k))
 
   -- a turn where one does
-  turn-on : (n q : ℕ) (w : Walk) (K : ℕ) → eqb (w .len) 0 ≡ false → K ≡ w .len → Test (stands (pr q) (se q) K (w .i))
-      → ahead size pr se (suc n) q w ≡ cond (stands (pr q) (se q) K (w .i)) (ahead size pr se n (suc q) (after w K (pr q % 2))) none
+  turn-on : (n q : ℕ) (w : Walk) (K : ℕ) (t : Bool) → eqb (w .len) 0 ≡ false → K ≡ w .len → t ≡ literalAt pr q (w .i) → Test (stands (pr q) (se q) K (w .i) t)
+      → ahead size pr se (suc n) q w ≡ cond (stands (pr q) (se q) K (w .i) t) (ahead size pr se n (suc q) (after w K (pr q % 2))) none
   unfolding ahead after past beyond beside
-  turn-on n q w K a x (is-false s) = rw (a, on-step n q (w .len) (w .i) (eqb-false (w .len) 0 a), ← x, s)
-  turn-on n q w K a x (is-true s) =
-      let l : ahead size pr se (suc n) q w ≡ beyond n q w K = rw (a, on-step n q (w .len) (w .i) (eqb-false (w .len) 0 a), ← x, s, beside-on, low-bit q) in
+  turn-on n q w K t a x u (is-false s) = rw (a, on-step n q (w .len) (w .i) (literalAt pr q (w .i)) (eqb-false (w .len) 0 a), ← x, ← u, s)
+  turn-on n q w K t a x u (is-true s) =
+      let l : ahead size pr se (suc n) q w ≡ beyond n q w K =
+      rw (a, on-step n q (w .len) (w .i) (literalAt pr q (w .i)) (eqb-false (w .len) 0 a), ← x, ← u, s, beside-on, low-bit q) in
       rw s (l ∙ sym (beyond-after n q w K (rw (← x) at a)))
 
   -- a turn of the loop
-  pub turn : (n q : ℕ) (w : Walk) (K : ℕ) → w .i < max (w .len) 1 → K ≡ current size pr se q (w .len)
-      → ahead size pr se (suc n) q w ≡ cond (stands (pr q) (se q) K (w .i)) (ahead size pr se n (suc q) (after w K (pr q % 2))) none
+  pub turn : (n q : ℕ) (w : Walk) (K : ℕ) (t : Bool) → w .i < max (w .len) 1 → K ≡ current size pr se q (w .len) → t ≡ literalAt pr q (w .i)
+      → ahead size pr se (suc n) q w ≡ cond (stands (pr q) (se q) K (w .i) t) (ahead size pr se n (suc q) (after w K (pr q % 2))) none
   unfolding current
-  turn n q w K h e = go (test (eqb (w .len) 0)) (test (stands (pr q) (se q) K (w .i))) (test (eqb K 0))
+  turn n q w K t h e u = go (test (eqb (w .len) 0)) (test (stands (pr q) (se q) K (w .i) t)) (test (eqb K 0))
     where
-      go : Test (eqb (w .len) 0) → Test (stands (pr q) (se q) K (w .i)) → Test (eqb K 0)
-          → ahead size pr se (suc n) q w ≡ cond (stands (pr q) (se q) K (w .i)) (ahead size pr se n (suc q) (after w K (pr q % 2))) none
-      go (is-true a) s k = let z : w .len ≡ 0 = eqb-true (w .len) 0 a in turn-open n q w K z (omega arith) (rw z at e) s k
-      go (is-false a) s k = turn-on n q w K a (rw a at e) s
+      go : Test (eqb (w .len) 0) → Test (stands (pr q) (se q) K (w .i) t) → Test (eqb K 0)
+          → ahead size pr se (suc n) q w ≡ cond (stands (pr q) (se q) K (w .i) t) (ahead size pr se n (suc q) (after w K (pr q % 2))) none
+      go (is-true a) s k =
+          let z : w .len ≡ 0 = eqb-true (w .len) 0 a in
+          let y : w .i ≡ 0 = omega arith in
+          turn-open n q w K t z y (rw z at e) (rw y at u) s k
+      go (is-false a) s k = turn-on n q w K t a (rw a at e) u s

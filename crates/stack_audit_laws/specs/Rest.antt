@@ -15,6 +15,7 @@ use Rattle.stack_layout.specs.Walk.{stackWalk}
 use Rattle.stack_audit_laws.specs.declared.Walk.{Walk}
 use Rattle.stack_audit_laws.specs.declared.Moved.{Moved}
 use Rattle.stack_audit_laws.specs.declared.Moved.the-variants.{On, NoImage}
+use Rattle.stack_audit_laws.specs.Turn.{literalAt}
 
 -- what is found, beside the blocks, live bytes and written bytes that were counted
 unfoldable pub beside : (b l m : ℕ) → Found → Option Tally
@@ -23,7 +24,7 @@ beside b l m (got ms bs) = some (tally 0 (b + count (λ a. true) bs) (l + (lengt
 
 -- what is ahead of a walk that has n bytes left, from q on; the block that goes on there was not counted yet
 unfoldable pub ahead : (size : ℕ) (pr se : ℕ → ℕ) (n q : ℕ) → Walk → Option Tally
-ahead size pr se n q w = beside (w .blocks + cond (eqb (w .len) 0) 0 1) (w .live) (w .written) (stackWalk size pr se n q (w .len) (w .i))
+ahead size pr se n q w = beside (w .blocks + cond (eqb (w .len) 0) 0 1) (w .live) (w .written) (stackWalk size pr se n q (w .len) (w .i) (literalAt pr q (w .i)))
 
 -- what is ahead of a walk over two shadows that has come to q
 unfoldable pub rest : (P S : List ℕ) (q : ℕ) → Walk → Option Tally
@@ -32,6 +33,7 @@ rest P S q w = ahead (length P) (at P) (at S) (length P - q) q w
 -- what a turn keeps
 pub record Kept (size q : ℕ) (w : Walk) : Type 0 where
   pub within : q ≤ size
+  pub begun : w .i ≤ q
   pub offset : w .i < max (w .len) 1
   pub few : w .blocks ≤ q
   pub lives : w .live ≤ q

@@ -6,6 +6,7 @@ ghost use Rattle.number.specs.Parts.{at};
 ghost use Rattle.stack_audit_laws.specs.Turn as turn;
 use map::Position;
 use stack_audit_bytes::code_at;
+use stack_audit_bytes::low_bits;
 use stack_audit_bytes::secondary_at;
 use stack_audit_bytes::short_length;
 use stack_audit_laws::Walk;
@@ -44,15 +45,25 @@ pub fn current(primary: &[u8], secondary: &[u8], q: Position, len: u32) -> u32
     0
 }
 
-// Whether the bytes x and y are those of byte i of a block of length k, or zero where k is 0.
-pub fn stands(x: u8, y: u8, k: u32, i: u32) -> bool
+// Whether the block that has its byte i at q, or would begin there, is a literal: its first byte tells.
+pub fn literal_at(primary: &[u8], q: Position, i: u32) -> bool
+    requires { ⌜ (q .0 < length (now primary)) × (i ≤ q .0) ⌝ }
+    ensures { λ r. ⌜ r ≡ turn.literalAt (at (now (primary .entry))) (q .0) i ⌝ }
+{
+    let Position(at) = q;
+    let first = primary[at - (i as usize)];
+    first & 2 != 0
+}
+
+// Whether the bytes x and y are those of byte i of a block of length k, a literal or not, or zero where k is 0.
+pub fn stands(x: u8, y: u8, k: u32, i: u32, literal: bool) -> bool
     requires { ⌜ i < max k 1 ⌝ }
-    ensures { λ r. ⌜ r ≡ turn.stands x y k i ⌝ }
+    ensures { λ r. ⌜ r ≡ turn.stands x y k i literal ⌝ }
 {
     if k == 0 {
         return (x == 0) & (y == 0);
     }
-    (x == ((code_at(k, i) << 2) | (x & 1))) & (y == secondary_at(k, i))
+    (x == ((code_at(k, i) << 2) | low_bits(x, literal))) & (y == secondary_at(k, i))
 }
 
 // The walk past n bytes of a block of length k. A block counts where it ends.

@@ -1,7 +1,7 @@
 -- What a block makes of its bytes as it begins, piece by piece. Assumes nothing.
 use mathlib.Core.Path.{_≡_, sym, ap, _∙_}
 use mathlib.Core.Logic.{_⊎_, inl, inr}
-use mathlib.Core.Bool.{Bool, true, false}
+use mathlib.Core.Bool.{true, false}
 use mathlib.Core.List.{List, [], _∷_}
 use Prim.Native.Nat.{ℕ, zero, suc, _+_, _-_, _*_, _/_, _%_, _≤_, _<_, min}
 use native.Mathlib.Omega.{arith}
@@ -9,13 +9,13 @@ use native.Mathlib.Nat.{add-sub-cancel-left, zero-add}
 use lib.ListN.{length-replicate, getD-replicate}
 use borrow.Author.Tests.{lt-ltb, le-ltb, le-leb, lt-leb}
 use Rattle.number.specs.Little.{byteOf}
-use Rattle.number.specs.Bits.{bit}
 use Rattle.number.specs.Parts.{at, zeros, over}
 use Rattle.number.proofs.TestLaws.{and-true, in-true}
 use Rattle.number.proofs.PartLaws.{zeros-at, over-none, over-ext, over-next, over-tail}
-use Rattle.plain.specs.Block.{begun}
+use Rattle.plain.specs.declared.Beginning.{Beginning}
+use Rattle.plain.specs.Block.{startsWritten, startsLiteral, begun}
 use Rattle.plain.specs.Layer.{layer}
-use Rattle.stack_layout.specs.Code.{shortCode, pieceOf, codeOf, pieceByte, primaryOf, secondaryOf}
+use Rattle.stack_layout.specs.Code.{shortCode, pieceOf, codeOf, pieceByte, lowBits, primaryOf, secondaryOf}
 use Rattle.stack_layout.specs.Image.{primaryOwn, secondaryOwn, primaryByte, secondaryByte}
 use Rattle.stack_layout.specs.Ops.{StackShadows, stackVacant, stackStamp}
 
@@ -24,17 +24,17 @@ unfolding stackVacant
 vacant-secondary P S b l e = and-true (zeros (at P) b l) (zeros (at S) b l) e .1
 
 -- what a block makes of the shadows as it begins, byte by byte
-pub stamped : (w : Bool) (P S Q T : List ℕ) (b l m : ℕ) → m ≡ bit w → Q ≡ over b l (λ q. primaryOf l (q - b) m) P → T ≡ over b l (λ q. secondaryOf l (q - b)) S
-    → _≡_ {A = StackShadows} (Q, T) (stackStamp (P, S) (begun w b l))
+pub stamped : (how : Beginning) (P S Q T : List ℕ) (b l m : ℕ) → m ≡ lowBits (startsLiteral how) (startsWritten how) → Q ≡ over b l (λ q. primaryOf l (q - b) m) P → T ≡ over b l (λ q. secondaryOf l (q - b)) S
+    → _≡_ {A = StackShadows} (Q, T) (stackStamp (P, S) (begun how b l))
 unfolding stackStamp layer primaryOwn secondaryOwn
-stamped w P S Q T b l m e u v =
-    rw (u, v, length-replicate l w, over-ext b l (primaryByte (begun w b l ∷ [])) (λ q. primaryOf l (q - b) m) P prim, over-ext b l (secondaryByte (begun w b l ∷ [])) (λ q. secondaryOf l (q - b)) S sec)
+stamped how P S Q T b l m e u v =
+    rw (u, v, length-replicate l (startsWritten how), over-ext b l (primaryByte (begun how b l ∷ [])) (λ q. primaryOf l (q - b) m) P prim, over-ext b l (secondaryByte (begun how b l ∷ [])) (λ q. secondaryOf l (q - b)) S sec)
   where
-    prim : (q : ℕ) → b ≤ q → q < b + l → primaryByte (begun w b l ∷ []) q ≡ primaryOf l (q - b) m
-    prim q x y = rw (length-replicate l w, in-true b (b + l) q x y, getD-replicate l (q - b) w false (omega arith), e)
+    prim : (q : ℕ) → b ≤ q → q < b + l → primaryByte (begun how b l ∷ []) q ≡ primaryOf l (q - b) m
+    prim q x y = rw (length-replicate l (startsWritten how), in-true b (b + l) q x y, getD-replicate l (q - b) (startsWritten how) false (omega arith), e)
 
-    sec : (q : ℕ) → b ≤ q → q < b + l → secondaryByte (begun w b l ∷ []) q ≡ secondaryOf l (q - b)
-    sec q x y = rw (length-replicate l w, in-true b (b + l) q x y)
+    sec : (q : ℕ) → b ≤ q → q < b + l → secondaryByte (begun how b l ∷ []) q ≡ secondaryOf l (q - b)
+    sec q x y = rw (length-replicate l (startsWritten how), in-true b (b + l) q x y)
 
 -- the primary bytes of a short block climb from its first code
 pub short-primary : (b L n m : ℕ) → L ≤ 8 → n ≡ L * (L - 1) / 2 → (P Q : List ℕ) → Q ≡ over b L (λ q. 4 * (n + 1) + m + 4 * (q - b)) P

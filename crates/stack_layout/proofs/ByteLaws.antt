@@ -8,13 +8,12 @@ use lib.Dec.{leb, ltb}
 use Rattle.number.specs.Little.{byteOf}
 use Rattle.number.proofs.TestLaws.{Test, is-true, is-false, test, cond-both}
 use Rattle.number.proofs.LittleLaws.{byteOf-lt}
-use Rattle.number.proofs.BitLaws.{bit-lt}
 use Rattle.plain.specs.Block.{Block, len, contains, isWritten}
 use Rattle.plain.specs.Layer.{layer}
 use Rattle.plain.proofs.BlockLaws.{contains-true}
 use Rattle.stack_layout.specs.Code.{pieceOf, pieceByte, primaryOf, secondaryOf}
 use Rattle.stack_layout.specs.Image.{primaryOwn, secondaryOwn, byBlock, primaryByte, secondaryByte}
-use Rattle.stack_layout.proofs.CodeLaws.{code-lt}
+use Rattle.stack_layout.proofs.CodeLaws.{code-lt, low-lt}
 
 abbrev IsByte : ℕ → Type 0
 IsByte x = x < 256
@@ -33,7 +32,7 @@ primary-lt : (b : Block) (q : ℕ) → contains q b ≡ true → primaryOwn b q 
 unfolding primaryOwn primaryOf
 primary-lt b q e =
     let h = contains-true q b e in
-    omega (arith, code-lt (len b) (q - b .base) (omega arith), bit-lt (isWritten b q))
+    omega (arith, code-lt (len b) (q - b .base) (omega arith), low-lt (b .literal) (isWritten b q))
 
 piece-lt : (L o j : ℕ) → pieceByte L o j < 256
 unfolding pieceByte

@@ -9,7 +9,6 @@ use lib.ListN.{set, length-set}
 use lib.Seq.{getD-set-same, getD-set-other}
 use lib.Dec.{eqb}
 use borrow.Author.Tests.{eqb-true, eqb-false}
-use Rattle.number.specs.Bits.{bit}
 use Rattle.number.specs.Parts.{at, tab, over}
 use Rattle.number.proofs.TestLaws.{Test, is-true, is-false, test}
 use Rattle.number.proofs.BitLaws.{bit-lt, bit-back}
@@ -23,10 +22,10 @@ use Rattle.plain.proofs.BlockLaws.{contains-true}
 use Rattle.plain.proofs.ListLaws.{find-has}
 use Rattle.plain.proofs.AreaLaws.{stack-sound}
 use Rattle.plain.proofs.LayerLaws.{layer-insert, layer-remove, layer-mark}
-use Rattle.stack_layout.specs.Code.{primaryOf}
+use Rattle.stack_layout.specs.Code.{lowBits, primaryOf}
 use Rattle.stack_layout.specs.Image.{primaryOwn, secondaryOwn, byBlock, primaryByte, secondaryByte, stackImage}
 use Rattle.stack_layout.specs.Ops.{stackStamp, stackErase, stackMark, stackMarked, withWritten}
-use Rattle.stack_layout.proofs.CodeLaws.{primary-apart}
+use Rattle.stack_layout.proofs.CodeLaws.{low-lt, low-written, primary-apart}
 use Rattle.stack_layout.proofs.ImageLaws.{covers, in-foot, byte-own, byte-same, at-image}
 
 -- a block that covers a place makes it, by itself too
@@ -90,7 +89,7 @@ module _ (size : ℕ) (bs : List Block) (P : Placed (stackRules 0 size) 0 bs) wh
         go (is-false t) = rw t
 
     pub primary-here : primaryByte (markOne a bs) a ≡ withWritten (primaryByte bs a)
-    unfolding primaryOwn primaryOf
+    unfolding primaryOwn primaryOf lowBits
     primary-here =
         rw (
           marked-byte primaryOwn a,
@@ -99,7 +98,7 @@ module _ (size : ℕ) (bs : List Block) (P : Placed (stackRules 0 size) 0 bs) wh
           as-long,
           getD-set-same (b .marks) (a - b .base) true false (omega (arith, held)),
         )
-        (omega (arith, bit-lt (isWritten b a)))
+        (omega (arith, bit-lt (isWritten b a), bit-lt (b .literal)))
 
     pub primary-there : (q : ℕ) → (q ≡ a → ⊥) → primaryByte (markOne a bs) q ≡ primaryByte bs q
     unfolding primaryOwn
@@ -134,6 +133,7 @@ module _ (size : ℕ) (bs : List Block) (P : Placed (stackRules 0 size) 0 bs) wh
         rw (
           ap (λ (f : ℕ → ℕ). f a) (at-image size bs P primaryOwn),
           byte-own size bs primaryOwn a b e,
-          primary-apart (len b) (a - b .base) (bit (isWritten b a)) (bit-lt (isWritten b a)) .bit,
+          primary-apart (len b) (a - b .base) (lowBits (b .literal) (isWritten b a)) (low-lt (b .literal) (isWritten b a)) .bit,
+          low-written (b .literal) (isWritten b a),
         )
         (bit-back (isWritten b a))

@@ -8,8 +8,10 @@ use lib.Dec.{leb}
 use borrow.Author.Tests.{lt-ltb, le-ltb, lt-leb, leb-true, leb-false}
 use Rattle.number.specs.Little.{word}
 use Rattle.number.proofs.TestLaws.{Test, is-true, is-false, test}
+use Rattle.number.specs.Bits.{bit}
 use Rattle.number.proofs.LittleLaws.{word-of}
-use Rattle.stack_layout.specs.Code.{shortCode, pieceOf, codeOf, pieceByte, primaryOf, secondaryOf}
+use Rattle.number.proofs.BitLaws.{bit-lt}
+use Rattle.stack_layout.specs.Code.{shortCode, pieceOf, codeOf, pieceByte, lowBits, primaryOf, secondaryOf}
 use Rattle.stack_layout.proofs.TableLaws.{encoded}
 
 -- ---- pieces
@@ -79,14 +81,30 @@ code-lt L i h = go (test (leb L 8))
     go (is-true e) = rw e (omega (arith, encoded L i (leb-true L 8 e) h .most))
     go (is-false e) = rw e (omega (arith, piece L i (leb-false L 8 e) h .near))
 
+-- ---- the low bits
+
+pub low-lt : (t w : Bool) → lowBits t w < 4
+unfolding lowBits
+low-lt t w = omega (arith, bit-lt t, bit-lt w)
+
+pub low-written : (t w : Bool) → lowBits t w % 2 ≡ bit w
+unfolding lowBits
+low-written t w = omega (arith, bit-lt w)
+
+pub low-literal : (t w : Bool) → lowBits t w / 2 % 2 ≡ bit t
+unfolding lowBits
+low-literal t w = omega (arith, bit-lt t, bit-lt w)
+
 -- ---- a primary byte taken apart
 
+-- code and low bits
 pub record Apart (x c m : ℕ) : Type 0 where
   pub code : x / 4 ≡ c
-  pub spare : x / 2 % 2 ≡ 0
-  pub bit : x % 2 ≡ m
+  pub low : x % 4 ≡ m
+  pub mark : x / 2 % 2 ≡ m / 2 % 2
+  pub bit : x % 2 ≡ m % 2
 
-pub primary-apart : (L i m : ℕ) → m < 2 → Apart (primaryOf L i m) (codeOf L i) m
+pub primary-apart : (L i m : ℕ) → m < 4 → Apart (primaryOf L i m) (codeOf L i) m
 unfolding primaryOf
 primary-apart L i m h = omega arith
 

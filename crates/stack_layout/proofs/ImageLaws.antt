@@ -7,10 +7,9 @@ use Prim.Native.Nat.{ℕ, _+_, _-_, _^_, _≤_, _<_, max}
 use native.Mathlib.Omega.{arith}
 use lib.Dec.{ltb}
 use borrow.Author.Tests.{ltb-true, not-true}
-use Rattle.number.specs.Bits.{bit}
 use Rattle.number.specs.Parts.{at, tab, zeros}
 use Rattle.number.proofs.TestLaws.{and-true, in-above, same-test}
-use Rattle.number.proofs.BitLaws.{bit-lt}
+use Rattle.number.proofs.BitLaws.{bit-back}
 use Rattle.number.proofs.PartLaws.{at-whole, zeros-at, zeros-all}
 use Rattle.plain.specs.Block.{Block, len, contains, isWritten}
 use Rattle.plain.specs.Blocks.{find, found, any}
@@ -22,9 +21,10 @@ use Rattle.plain.proofs.FindLaws.{Facts, find-facts, find-other, none-outside}
 use Rattle.plain.proofs.ListLaws.{find-has}
 use Rattle.plain.proofs.AreaLaws.{stack-span, stack-sound}
 use Rattle.plain.proofs.LayerLaws.{InFoot, ownOf, layer-find, layer-has, layer-apart}
+use Rattle.stack_layout.specs.Code.{lowBits}
 use Rattle.stack_layout.specs.Image.{primaryOwn, secondaryOwn, byBlock, primaryByte, secondaryByte}
 use Rattle.stack_layout.specs.Reading.{stackReading}
-use Rattle.stack_layout.proofs.CodeLaws.{primary-pos}
+use Rattle.stack_layout.proofs.CodeLaws.{low-lt, low-written, low-literal, primary-pos}
 use Rattle.stack_layout.proofs.ReadingLaws.{read-own, read-zero}
 
 -- the block covers position q
@@ -79,9 +79,11 @@ module _ (size : ℕ) (bs : List Block) where
         go (some b) e =
             let F : Facts R S (contains p) b = find-facts R S bs 0 (contains p) b P e in
             let h = contains-true p b (F .so) in
-            read-own size small (primaryByte bs) (secondaryByte bs) p (b .base) (len b) (bit (isWritten b p)) (h .0) (h .1)
-            (omega (arith, stack-span 0 size (b .base) (len b) (F .fits))) (bit-lt (isWritten b p)) (byte-own primaryOwn p b e)
+            let m : ℕ = lowBits (b .literal) (isWritten b p) in
+            read-own size small (primaryByte bs) (secondaryByte bs) p (b .base) (len b) m (h .0) (h .1)
+            (omega (arith, stack-span 0 size (b .base) (len b) (F .fits))) (low-lt (b .literal) (isWritten b p)) (byte-own primaryOwn p b e)
             (λ q x y. byte-same secondaryOwn p q b e x y)
+            ∙ rw (low-written (b .literal) (isWritten b p), low-literal (b .literal) (isWritten b p), bit-back (b .literal))
 
     -- refusal 6: the bytes of a range are zero exactly where no block meets it
     pub vacant-image : (b l : ℕ) → 1 ≤ l
@@ -104,7 +106,7 @@ module _ (size : ℕ) (bs : List Block) where
             let own : primaryByte bs q ≡ primaryOwn c q =
             layer-has R S covers (λ p. p) (in-foot size) q primaryOwn 0 0 P (find-has (meets R b l) bs c e .0) h in
             let zero : primaryByte bs q ≡ 0 = rw w at (zeros-at (primaryByte bs) b l (q - b) z (omega arith)) in
-            absurd (omega (arith, primary-pos (len c) (q - c .base) (bit (isWritten c q))))
+            absurd (omega (arith, primary-pos (len c) (q - c .base) (lowBits (c .literal) (isWritten c q))))
 
         clear : (own : Block → ℕ → ℕ) → any (meets R b l) bs ≡ false → zeros (byBlock own bs) b l ≡ true
         clear own m = zeros-all (byBlock own bs) b l

@@ -54,7 +54,7 @@ module _ (size : ℕ) (pr se pr′ se′ : ℕ → ℕ) where
   -- nine bytes: bytes that agree at the places looked at give the same reading
   pub reading-same : (p : ℕ) → Each (Agree pr se pr′ se′) (stackLooks pr p) → stackReading size pr′ se′ p ≡ stackReading size pr se p
   unfolding stackReading stackLooks
-  reading-same p a = rw (a .0, code-same p (pr p / 4) (pr p % 2) (a .1))
+  reading-same p a = rw (a .0, code-same p (pr p / 4) (pr p % 4) (a .1))
 
 -- and the reading of both looks at the same places
 pub looks-same : (pr se pr′ se′ : ℕ → ℕ) (p : ℕ) → Each (Agree pr se pr′ se′) (stackLooks pr p) → stackLooks pr′ p ≡ stackLooks pr p

@@ -1,5 +1,5 @@
 -- The reading: what a block's own bytes are read as, and what every block that is told keeps. Assumes nothing.
-use mathlib.Core.Path.{_≡_, refl}
+use mathlib.Core.Path.{_≡_, refl, sym}
 use mathlib.Core.Bool.{Bool, true, false, cond, _&&_, _||_, not}
 use Prim.Native.Nat.{ℕ, _+_, _-_, _/_, _%_, _^_, _≤_, _<_}
 use native.Mathlib.Omega.{arith}
@@ -15,7 +15,7 @@ use Rattle.stack_layout.proofs.CodeLaws.{Piece, piece, secondary-words,
 
 -- ---- a block's own bytes
 
-fitted-is : (size p base L m : ℕ) → base ≤ p → base + L ≤ size → fitted size p L (p - base) m ≡ block base L (p - base) m
+fitted-is : (size p base L m : ℕ) → base ≤ p → base + L ≤ size → fitted size p L (p - base) m ≡ block base L (p - base) (m % 2) (eqb (m / 2 % 2) 1)
 unfolding fitted
 fitted-is size p base L m h f =
     let q : p - (p - base) ≡ base = omega arith in
@@ -36,7 +36,7 @@ good-piece L i o P n h =
         go (is-false e) = rw e
 
 long-is : (size : ℕ) (se : ℕ → ℕ) (p base L o m : ℕ) → Piece L (p - base) o → 9 ≤ L → base ≤ p → p < base + L → base + L ≤ size
-    → word se (base + o) 4 ≡ L → word se (base + o + 4) 4 ≡ o → longReading size se p (p - base - o) m ≡ block base L (p - base) m
+    → word se (base + o) 4 ≡ L → word se (base + o + 4) 4 ≡ o → longReading size se p (p - base - o) m ≡ block base L (p - base) (m % 2) (eqb (m / 2 % 2) 1)
 unfolding longReading
 long-is size se p base L o m P n x y f eL eo =
     let a : o ≤ p - base = P .le in
@@ -55,13 +55,13 @@ long-is size se p base L o m P n x y f eL eo =
     (fitted-is size p base L m x f)
 
 -- a block whose bytes are its own is read as it is
-pub read-own : (size : ℕ) → size < 256 ^ 4 → (pr se : ℕ → ℕ) (p base L m : ℕ) → base ≤ p → p < base + L → base + L ≤ size → m < 2
+pub read-own : (size : ℕ) → size < 256 ^ 4 → (pr se : ℕ → ℕ) (p base L m : ℕ) → base ≤ p → p < base + L → base + L ≤ size → m < 4
     → pr p ≡ primaryOf L (p - base) m → ((q : ℕ) → base ≤ q → q < base + L → se q ≡ secondaryOf L (q - base))
-    → stackReading size pr se p ≡ block base L (p - base) m
+    → stackReading size pr se p ≡ block base L (p - base) (m % 2) (eqb (m / 2 % 2) 1)
 unfolding stackReading codeReading codeOf
 read-own size small pr se p base L m x y f n ep es =
     let A : Apart (primaryOf L i m) (codeOf L i) m = primary-apart L i m n in
-    rw (ep, A .spare, A .code, A .bit) (go (test (leb L 8)))
+    rw (ep, A .code, A .low) (go (test (leb L 8)))
   where
     i : ℕ
     i = p - base
@@ -69,7 +69,7 @@ read-own size small pr se p base L m x y f n ep es =
     h : i < L
     h = omega arith
 
-    go : Test (leb L 8) → codeReading size se p (cond (leb L 8) (shortCode L i) (48 + (i - pieceOf L i))) m ≡ block base L i m
+    go : Test (leb L 8) → codeReading size se p (cond (leb L 8) (shortCode L i) (48 + (i - pieceOf L i))) m ≡ block base L i (m % 2) (eqb (m / 2 % 2) 1)
     go (is-true e) =
         let E : Encoded L i (shortCode L i) = encoded L i (leb-true L 8 e) h in
         rw (e, ne-eqb (shortCode L i) 0 (λ z. omega (arith, E .some)), le-leb (shortCode L i) 36 (E .most), E .length, E .offset)
@@ -98,61 +98,75 @@ read-zero size pr se p e = rw e
 
 -- ---- what every block that is told keeps
 
-pub record Told (size p b L o m : ℕ) : Type 0 where
+-- n is the two low bits of the primary byte
+pub record Told (size p b L o m : ℕ) (t : Bool) (n : ℕ) : Type 0 where
   pub some : 1 ≤ L
   pub fits : b + L ≤ size
   pub low : b ≤ p
   pub offset : o ≡ p - b
   pub inside : o < L
   pub bit : m < 2
+  pub written : m ≡ n % 2
+  pub mark : t ≡ eqb (n / 2 % 2) 1
 
-module _ (size : ℕ) (se : ℕ → ℕ) (p b L o m : ℕ) where
+module _ (size : ℕ) (se : ℕ → ℕ) (p b L o m : ℕ) (t : Bool) where
   -- where a block is told, no test for damage passed
-  passed : (t : Bool) (r : Reading) → cond t damaged r ≡ block b L o m → (t ≡ false) × (r ≡ block b L o m)
+  passed : (x : Bool) (r : Reading) → cond x damaged r ≡ block b L o m t → (x ≡ false) × (r ≡ block b L o m t)
   passed true r e = absurd (let z : _≡_ {A = ℕ} 0 1 = cc in omega arith)
   passed false r e = (refl, e)
 
-  fitted-told : (K i n : ℕ) → i < K → n < 2 → fitted size p K i n ≡ block b L o m → Told size p b L o m
+  fitted-told : (K i n : ℕ) → i < K → fitted size p K i n ≡ block b L o m t → Told size p b L o m t n
   unfolding fitted
-  fitted-told K i n h k e =
-      let t = passed (ltb p i || ltb (size + i) (p + K)) (block (p - i) K i n) e in
-      let u = or-false (ltb p i) (ltb (size + i) (p + K)) (t .0) in
-      let f : _≡_ {A = Reading} (block (p - i) K i n) (block b L o m) = t .1 in
+  fitted-told K i n h e =
+      let r : Reading = block (p - i) K i (n % 2) (eqb (n / 2 % 2) 1) in
+      let x = passed (ltb p i || ltb (size + i) (p + K)) r e in
+      let u = or-false (ltb p i) (ltb (size + i) (p + K)) (x .0) in
+      let f : r ≡ block b L o m t = x .1 in
       let eb : p - i ≡ b = cc in
       let eL : K ≡ L = cc in
       let eo : i ≡ o = cc in
-      let em : n ≡ m = cc in
-      omega (arith, ltb-false p i (u .0), ltb-false (size + i) (p + K) (u .1))
+      let em : n % 2 ≡ m = cc in
+      let v = ltb-false p i (u .0) in
+      let w = ltb-false (size + i) (p + K) (u .1) in
+      record {
+        some = omega arith;
+        fits = omega arith;
+        low = omega arith;
+        offset = omega arith;
+        inside = omega arith;
+        bit = omega arith;
+        written = sym em;
+        mark = cc;
+      }
 
-  long-told : (j n : ℕ) → n < 2 → longReading size se p j n ≡ block b L o m → Told size p b L o m
+  long-told : (j n : ℕ) → longReading size se p j n ≡ block b L o m t → Told size p b L o m t n
   unfolding longReading badPiece
-  long-told j n k e =
+  long-told j n e =
       let K : ℕ = word se (p - j) 4 in
       let q : ℕ = word se (p - j + 4) 4 in
-      let t = passed (ltb p j || ltb (size + j) (p + 8)) (cond (badPiece K q j) damaged (fitted size p K (q + j) n)) e in
-      let u = passed (badPiece K q j) (fitted size p K (q + j) n) (t .1) in
+      let x = passed (ltb p j || ltb (size + j) (p + 8)) (cond (badPiece K q j) damaged (fitted size p K (q + j) n)) e in
+      let u = passed (badPiece K q j) (fitted size p K (q + j) n) (x .1) in
       let v = or-false (ltb K 9 || not (eqb (q % 8) 0) || ltb K (q + 8) || (ltb 7 j && leb (q + 16) K)) (leb K (q + j)) (u .0) in
-      fitted-told K (q + j) n (leb-false K (q + j) (v .1)) k (u .1)
+      fitted-told K (q + j) n (leb-false K (q + j) (v .1)) (u .1)
 
-  code-told : (c n : ℕ) → n < 2 → codeReading size se p c n ≡ block b L o m → Told size p b L o m
+  code-told : (c n : ℕ) → codeReading size se p c n ≡ block b L o m t → Told size p b L o m t n
   unfolding codeReading
-  code-told c n k e = go (test (eqb c 0)) (test (leb c 36)) (eqb n 0) e
+  code-told c n e = go (test (eqb c 0)) (test (leb c 36)) (eqb n 0) e
     where
       far : Reading
       far = cond (ltb c 48 || ltb 62 c) damaged (longReading size se p (c - 48) n)
 
       go : Test (eqb c 0) → Test (leb c 36) → (z : Bool)
-          → cond (eqb c 0) (cond z nothing damaged) (cond (leb c 36) (fitted size p (shortLength c) (shortOffset c) n) far) ≡ block b L o m → Told size p b L o m
-      go (is-true t) u true e = absurd (let x : _≡_ {A = ℕ} 0 1 = cc (rw t at e) in omega arith)
-      go (is-true t) u false e = absurd (let x : _≡_ {A = ℕ} 0 1 = cc (rw t at e) in omega arith)
-      go (is-false t) (is-true u) z e =
-          let d = eqb-false c 0 t in
-          fitted-told (shortLength c) (shortOffset c) n (decoded c (omega arith) (leb-true c 36 u) .offset) k (rw (t, u) at e)
-      go (is-false t) (is-false u) z e = long-told (c - 48) n k (passed (ltb c 48 || ltb 62 c) (longReading size se p (c - 48) n) (rw (t, u) at e) .1)
+          → cond (eqb c 0) (cond z nothing damaged) (cond (leb c 36) (fitted size p (shortLength c) (shortOffset c) n) far) ≡ block b L o m t
+          → Told size p b L o m t n
+      go (is-true y) u true e = absurd (let x : _≡_ {A = ℕ} 0 1 = cc (rw y at e) in omega arith)
+      go (is-true y) u false e = absurd (let x : _≡_ {A = ℕ} 0 1 = cc (rw y at e) in omega arith)
+      go (is-false y) (is-true u) z e =
+          let d = eqb-false c 0 y in
+          fitted-told (shortLength c) (shortOffset c) n (decoded c (omega arith) (leb-true c 36 u) .offset) (rw (y, u) at e)
+      go (is-false y) (is-false u) z e = long-told (c - 48) n (passed (ltb c 48 || ltb 62 c) (longReading size se p (c - 48) n) (rw (y, u) at e) .1)
 
--- for all bytes: a block that is told has a byte, fits the area, and holds the position
-pub reading-told : (size : ℕ) (pr se : ℕ → ℕ) (p b L o m : ℕ) → stackReading size pr se p ≡ block b L o m → Told size p b L o m
+-- for all bytes: a block that is told has a byte, fits the area, holds the position, and is written and a literal as the low bits say
+pub reading-told : (size : ℕ) (pr se : ℕ → ℕ) (p b L o m : ℕ) (t : Bool) → stackReading size pr se p ≡ block b L o m t → Told size p b L o m t (pr p % 4)
 unfolding stackReading
-reading-told size pr se p b L o m e =
-    code-told size se p b L o m (pr p / 4) (pr p % 2) (omega arith)
-    (passed size se p b L o m (eqb (pr p / 2 % 2) 1) (codeReading size se p (pr p / 4) (pr p % 2)) e .1)
+reading-told size pr se p b L o m t e = code-told size se p b L o m t (pr p / 4) (pr p % 4) e

@@ -1,6 +1,6 @@
 -- The stack layout meets the laws of images, and an audit accepts nothing but images. Assumes nothing.
 use mathlib.Core.Path.{_≡_, refl}
-use mathlib.Core.Bool.{not}
+use mathlib.Core.Bool.{false, not}
 use mathlib.Core.List.{List, []}
 use mathlib.Core.Option.{some}
 use Prim.Native.Nat.{ℕ, _^_, _≤_, _<_}
@@ -60,10 +60,10 @@ module _ (size : ℕ) (small : size < 256 ^ 4) where
 
   pub stack-scanned : Scanned (stackRules 0 size) (stackOps size) (stackImage size) (λ s. (length (s .0) ≡ size) × (length (s .1) ≡ size))
   unfolding stackImage
-  stack-scanned = record { scanned = λ s t l e. go (s .0) (s .1) t l (stackWalk size (at (s .0)) (at (s .1)) size 0 0 0) refl e }
+  stack-scanned = record { scanned = λ s t l e. go (s .0) (s .1) t l (stackWalk size (at (s .0)) (at (s .1)) size 0 0 0 false) refl e }
     where
       go : (x y : List ℕ) (t : Tally) → (length x ≡ size) × (length y ≡ size) → (r : Found)
-          → stackWalk size (at x) (at y) size 0 0 0 ≡ r → totals R r ≡ some t
+          → stackWalk size (at x) (at y) size 0 0 0 false ≡ r → totals R r ≡ some t
           → (bs : List Block) × Placed R 0 bs × _≡_ {A = StackShadows} (x, y) (tab 0 size (primaryByte bs), tab 0 size (secondaryByte bs))
       go x y t l bad w e = absurd (let z : _≡_ {A = ℕ} 0 1 = cc in omega arith)
       go x y t l (got ms bs) w e =

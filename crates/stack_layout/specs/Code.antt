@@ -1,8 +1,9 @@
 -- The codes of the stack layout: what byte i of a block of length L has in primary and secondary. Assumes nothing.
-use mathlib.Core.Bool.{cond}
+use mathlib.Core.Bool.{Bool, cond}
 use Prim.Native.Nat.{ℕ, zero, suc, _+_, _*_, _-_, _/_, min}
 use lib.Dec.{leb, ltb}
 use Rattle.number.specs.Little.{byteOf}
+use Rattle.number.specs.Bits.{bit}
 
 -- Table 1: the code of byte i of a block of length 1 to 8
 unfoldable pub shortCode : (L i : ℕ) → ℕ
@@ -20,7 +21,11 @@ codeOf L i = cond (leb L 8) (shortCode L i) (48 + (i - pieceOf L i))
 unfoldable pub pieceByte : (L o j : ℕ) → ℕ
 pieceByte L o j = cond (ltb j 4) (byteOf L j) (cond (ltb j 8) (byteOf o (j - 4)) 0)
 
--- primary byte = 4 × code + written bit
+-- the two low bits of a primary byte: bit 0 where the byte is written, bit 1 where its block is a literal
+unfoldable pub lowBits : (literal written : Bool) → ℕ
+lowBits t w = 2 * bit t + bit w
+
+-- primary byte = 4 × code + low bits
 unfoldable pub primaryOf : (L i m : ℕ) → ℕ
 primaryOf L i m = 4 * codeOf L i + m
 

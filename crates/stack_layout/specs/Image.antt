@@ -1,15 +1,14 @@
 -- The stack layout: what a list of blocks makes of each byte of the primary and the secondary shadow. Positions. Assumes nothing.
 use mathlib.Core.List.{List}
 use Prim.Native.Nat.{ℕ, _-_}
-use Rattle.number.specs.Bits.{bit}
 use Rattle.number.specs.Parts.{tab}
 use Rattle.plain.specs.Block.{Block, len, contains, isWritten}
 use Rattle.plain.specs.Layer.{layer}
-use Rattle.stack_layout.specs.Code.{primaryOf, secondaryOf}
+use Rattle.stack_layout.specs.Code.{lowBits, primaryOf, secondaryOf}
 
 -- what a block makes of the byte at position q that it holds
 unfoldable pub primaryOwn : Block → (q : ℕ) → ℕ
-primaryOwn b q = primaryOf (len b) (q - b .base) (bit (isWritten b q))
+primaryOwn b q = primaryOf (len b) (q - b .base) (lowBits (b .literal) (isWritten b q))
 
 unfoldable pub secondaryOwn : Block → (q : ℕ) → ℕ
 secondaryOwn b q = secondaryOf (len b) (q - b .base)

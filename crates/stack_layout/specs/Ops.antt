@@ -1,5 +1,5 @@
 -- The operations on two stack shadows, primary and secondary. Positions. Assumes nothing.
-use mathlib.Core.Bool.{Bool, _&&_}
+use mathlib.Core.Bool.{Bool, false, _&&_}
 use mathlib.Core.List.{List, [], _∷_}
 use Prim.Native.Nat.{ℕ, _+_, _*_, _/_, _%_}
 use lib.ListN.{replicate, set}
@@ -46,5 +46,5 @@ stackOps size =
       erase = stackErase;
       mark = stackMark;
       marked = stackMarked;
-      audit = λ s. totals (stackRules 0 size) (stackWalk size (at (s .0)) (at (s .1)) size 0 0 0);
+      audit = λ s. totals (stackRules 0 size) (stackWalk size (at (s .0)) (at (s .1)) size 0 0 0 false);
     }

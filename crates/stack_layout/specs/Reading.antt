@@ -8,9 +8,9 @@ use Rattle.number.specs.Parts.{tab}
 use Rattle.plain.specs.Reading.{Reading, nothing, block, damaged}
 use Rattle.stack_layout.specs.Code.{shortLength, shortOffset}
 
--- position p is byte i of a block of length L: damaged where that block does not fit an area of this size
+-- position p is byte i of a block of length L, m the two low bits of its primary byte: damaged where that block does not fit an area of this size
 unfoldable pub fitted : (size p L i m : ℕ) → Reading
-fitted size p L i m = cond (ltb p i || ltb (size + i) (p + L)) damaged (block (p - i) L i m)
+fitted size p L i m = cond (ltb p i || ltb (size + i) (p + L)) damaged (block (p - i) L i (m % 2) (eqb (m / 2 % 2) 1))
 
 -- length L and piece offset o cannot stand in a piece that has a byte j. The last piece is the one with L < o + 16
 unfoldable pub badPiece : (L o j : ℕ) → Bool
@@ -26,15 +26,16 @@ longReading size se p j m =
     (cond (badPiece L o j) damaged
     (fitted size p L (o + j) m))
 
+-- code 0 stands for no block, and no low bit is set with it
 unfoldable pub codeReading : (size : ℕ) → (secondary : ℕ → ℕ) → (p code m : ℕ) → Reading
 codeReading size se p code m =
     cond (eqb code 0) (cond (eqb m 0) nothing damaged)
     (cond (leb code 36) (fitted size p (shortLength code) (shortOffset code) m)
     (cond (ltb code 48 || ltb 62 code) damaged (longReading size se p (code - 48) m)))
 
--- primary byte: bit 1 is zero, the code stands above it, bit 0 is the written bit
+-- primary byte: the code stands above two low bits, bit 1 for a literal, bit 0 for written
 unfoldable pub stackReading : (size : ℕ) → (primary secondary : ℕ → ℕ) → (p : ℕ) → Reading
-stackReading size pr se p = cond (eqb (pr p / 2 % 2) 1) damaged (codeReading size se p (pr p / 4) (pr p % 2))
+stackReading size pr se p = codeReading size se p (pr p / 4) (pr p % 4)
 
 -- a byte of the stack's shadows
 pub data Place : Type 0 where

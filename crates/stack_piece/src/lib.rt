@@ -6,10 +6,10 @@ ghost use Prim.Native.Nat.{_<_, _≤_};
 ghost use Rattle.plain.specs.Answers.{readingOf};
 ghost use Rattle.stack_layout.specs.Reading.{fitted, badPiece};
 
-// Position p is byte i of a block of length len: damaged where that block does not fit the area.
-pub fn fit(size: usize, p: Position, len: u32, i: u32, written: u8) -> Reading
+// Position p is byte i of a block of length len, bits the low two of its primary byte: damaged where that block does not fit the area.
+pub fn fit(size: usize, p: Position, len: u32, i: u32, bits: u8) -> Reading
     requires { ⌜ (size ≤ 65536) × (p .0 < size) ⌝ }
-    ensures { λ r. ⌜ readingOf r ≡ fitted size (p .0) len i written ⌝ }
+    ensures { λ r. ⌜ readingOf r ≡ fitted size (p .0) len i bits ⌝ }
 {
     let Position(at) = p;
     let offset = i as usize;
@@ -19,7 +19,7 @@ pub fn fit(size: usize, p: Position, len: u32, i: u32, written: u8) -> Reading
     if size + offset < at + (len as usize) {
         return Reading::Damaged;
     }
-    Reading::Block(Position(at - offset), len, i, written)
+    Reading::Block(Position(at - offset), len, i, bits)
 }
 
 // Length len and piece offset o cannot stand in a piece that has a byte j. In u64, where no sum wraps.

@@ -11,9 +11,9 @@ ghost use Rattle.plain.specs.Answers.{readingOf};
 ghost use Rattle.stack_layout.specs.Reading.{stackReading, longReading, codeReading};
 
 // Position p is j places into a piece. That the eight secondary bytes lie in the area is decided before they are fetched.
-fn read_long(secondary: &[u8], p: Position, j: u8, written: u8) -> Reading
+fn read_long(secondary: &[u8], p: Position, j: u8, bits: u8) -> Reading
     requires { ⌜ (p .0 < length (now secondary)) × (length (now secondary) ≤ 65536) × (j < 15) ⌝ }
-    ensures { λ r. ⌜ readingOf r ≡ longReading (length (now (secondary .entry))) (at (now (secondary .entry))) (p .0) j written ⌝ }
+    ensures { λ r. ⌜ readingOf r ≡ longReading (length (now (secondary .entry))) (at (now (secondary .entry))) (p .0) j bits ⌝ }
 {
     let Position(q) = p;
     let size = secondary.len();
@@ -30,23 +30,23 @@ fn read_long(secondary: &[u8], p: Position, j: u8, written: u8) -> Reading
     if stack_piece::bad_piece(len as u64, o as u64, j as u64) {
         return Reading::Damaged;
     }
-    stack_piece::fit(size, p, len, o + (j as u32), written)
+    stack_piece::fit(size, p, len, o + (j as u32), bits)
 }
 
-// Position p has this code and this written bit.
-fn read_code(secondary: &[u8], p: Position, code: u8, written: u8) -> Reading
+// Position p has this code and these low bits; code 0 stands for no block, with none of them set.
+fn read_code(secondary: &[u8], p: Position, code: u8, bits: u8) -> Reading
     requires { ⌜ (p .0 < length (now secondary)) × (length (now secondary) ≤ 65536) ⌝ }
-    ensures { λ r. ⌜ readingOf r ≡ codeReading (length (now (secondary .entry))) (at (now (secondary .entry))) (p .0) code written ⌝ }
+    ensures { λ r. ⌜ readingOf r ≡ codeReading (length (now (secondary .entry))) (at (now (secondary .entry))) (p .0) code bits ⌝ }
 {
     if code == 0 {
-        if written == 0 {
+        if bits == 0 {
             return Reading::Nothing;
         }
         return Reading::Damaged;
     }
     if code <= 36 {
         let len = short_length(code);
-        return stack_piece::fit(secondary.len(), p, len, short_offset(code, len), written);
+        return stack_piece::fit(secondary.len(), p, len, short_offset(code, len), bits);
     }
     if code < 48 {
         return Reading::Damaged;
@@ -54,18 +54,15 @@ fn read_code(secondary: &[u8], p: Position, code: u8, written: u8) -> Reading
     if 62 < code {
         return Reading::Damaged;
     }
-    read_long(secondary, p, code - 48, written)
+    read_long(secondary, p, code - 48, bits)
 }
 
-// The reading of a position: bit 1 is to be zero, the code is taken by shift, the written bit by mask.
+// The reading of a position: the code is taken by shift, the two low bits by mask.
 pub fn read(primary: &[u8], secondary: &[u8], p: Position) -> Reading
     requires { ⌜ (p .0 < length (now primary)) × (length (now primary) ≡ length (now secondary)) × (length (now primary) ≤ 65536) ⌝ }
     ensures { λ r. ⌜ readingOf r ≡ stackReading (length (now (primary .entry))) (at (now (primary .entry))) (at (now (secondary .entry))) (p .0) ⌝ }
 {
     let q = p.0;
     let byte = primary[q];
-    if byte & 2 != 0 {
-        return Reading::Damaged;
-    }
-    read_code(secondary, p, byte >> 2, byte & 1)
+    read_code(secondary, p, byte >> 2, byte & 3)
 }

@@ -1,46 +1,47 @@
 // A stack block as it begins, stamped into its place: codes in the primary, length and offset of each piece in the secondary.
 use map::Position;
+use plain::Beginning;
 use stack_table::codes_below;
 ghost use mathlib.Core.Path.{_≡_};
 ghost use mathlib.Core.Bool.{true};
 ghost use Prim.Native.Nat.{_+_, _≤_, _-_};
 ghost use lib.ListN.{length};
-ghost use Rattle.number.specs.Bits.{bit};
 ghost use Rattle.number.specs.Parts.{at, zeros, over};
-ghost use Rattle.plain.specs.Block.{begun};
-ghost use Rattle.stack_layout.specs.Code.{primaryOf, secondaryOf};
+ghost use Rattle.plain.specs.Block.{startsWritten, startsLiteral, begun};
+ghost use Rattle.stack_layout.specs.Code.{lowBits, primaryOf, secondaryOf};
 ghost use Rattle.stack_layout.specs.Ops.{StackShadows, stackVacant, stackStamp};
 
-// The written bit of each byte of a block as it begins.
-fn first_mark(written: bool) -> u8
-    ensures { λ r. ⌜ (r ≡ bit written) × (r ≤ 1) ⌝ }
+// The two low bits of each primary byte of a block as it begins.
+fn first_bits(how: Beginning) -> u8
+    ensures { λ r. ⌜ (r ≡ lowBits (startsLiteral how) (startsWritten how)) × (r ≤ 3) ⌝ }
 {
-    if written {
-        return 1;
+    match how {
+        Beginning::Unwritten => 0,
+        Beginning::Written => 1,
+        Beginning::Literal => 3,
     }
-    0
 }
 
-// The primary bytes, each with this written bit: the codes of a short block climb from its first, those of each piece from 48.
+// The primary bytes, each with these low bits: the codes of a short block climb from its first, those of each piece from 48.
 // The pieces before the last have eight bytes, the last takes the remainder.
-fn stamp_primary(primary: &mut [u8], base: Position, len: u32, mark: u8)
-    requires { ⌜ (base .0 + len ≤ length (now primary)) × (length (now primary) ≤ 65536) × (1 ≤ len) × (mark ≤ 1) ⌝ }
-    ensures { λ _. ⌜ now (primary .exit) ≡ over (base .0) len (λ q. primaryOf len (q - base .0) mark) (now (primary .entry)) ⌝ }
+fn stamp_primary(primary: &mut [u8], base: Position, len: u32, bits: u8)
+    requires { ⌜ (base .0 + len ≤ length (now primary)) × (length (now primary) ≤ 65536) × (1 ≤ len) × (bits ≤ 3) ⌝ }
+    ensures { λ _. ⌜ now (primary .exit) ≡ over (base .0) len (λ q. primaryOf len (q - base .0) bits) (now (primary .entry)) ⌝ }
 {
     if len <= 8 {
         let first = 4 * (codes_below(len) + 1);
-        stack_climb::climb_at(primary, base, len as usize, first as u8 + mark);
+        stack_climb::climb_at(primary, base, len as usize, first as u8 + bits);
         return;
     }
     let Position(b) = base;
     let mut o: u32 = 0;
     while o + 16 <= len {
         let q = b + (o as usize);
-        stack_climb::climb_at(primary, Position(q), 8, 192 + mark);
+        stack_climb::climb_at(primary, Position(q), 8, 192 + bits);
         o += 8;
     }
     let last = b + (o as usize);
-    stack_climb::climb_at(primary, Position(last), (len - o) as usize, 192 + mark);
+    stack_climb::climb_at(primary, Position(last), (len - o) as usize, 192 + bits);
 }
 
 // The secondary bytes, in a place where they are zero: each piece of a long block begins with the length and its own offset.
@@ -61,13 +62,13 @@ fn stamp_secondary(secondary: &mut [u8], base: Position, len: u32)
     }
 }
 
-// Records a block, all its bytes written or none, in a place that is vacant: secondary bytes that are to be zero stay as they are.
-pub fn stamp(primary: &mut [u8], secondary: &mut [u8], base: Position, len: u32, written: bool)
+// Records a block as it begins, in a place that is vacant: secondary bytes that are to be zero stay as they are.
+pub fn stamp(primary: &mut [u8], secondary: &mut [u8], base: Position, len: u32, how: Beginning)
     requires { ⌜ (base .0 + len ≤ length (now primary)) × (length (now primary) ≡ length (now secondary)) × (length (now primary) ≤ 65536) × (1 ≤ len)
         × (stackVacant (now primary, now secondary) (base .0) len ≡ true) ⌝ }
     ensures { λ _. ⌜ _≡_ {A = StackShadows} (now (primary .exit), now (secondary .exit))
-        (stackStamp (now (primary .entry), now (secondary .entry)) (begun written (base .0) len)) ⌝ }
+        (stackStamp (now (primary .entry), now (secondary .entry)) (begun how (base .0) len)) ⌝ }
 {
-    stamp_primary(primary, base, len, first_mark(written));
+    stamp_primary(primary, base, len, first_bits(how));
     stamp_secondary(secondary, base, len);
 }

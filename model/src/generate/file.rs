@@ -7,8 +7,8 @@ use crate::plain::{List, PlainList};
 use crate::program::{encode, encode_map, LARGEST_HEAP, LARGEST_STACK};
 use crate::random::Random;
 
-/// The last kind of the plain form.
-const LAST_KIND: u16 = 10;
+/// The last kind of either form; the plain one does not know 11 to 13.
+const LAST_KIND: u16 = 15;
 
 /// An input file with at most so many records before its end.
 pub fn file(random: &mut Random, records: u64) -> Vec<u8> {
@@ -25,7 +25,7 @@ pub fn file(random: &mut Random, records: u64) -> Vec<u8> {
             input.extend(call_record(random, &mut list));
         }
     }
-    spoil(random, &mut input, LAST_KIND);
+    spoil(random, &mut input);
     input
 }
 
@@ -67,7 +67,7 @@ fn call_record(random: &mut Random, list: &mut Option<PlainList>) -> Vec<u8> {
 }
 
 /// Half of all files end badly: cut, or with a record of no kind or length.
-pub(crate) fn spoil(random: &mut Random, input: &mut Vec<u8>, last_kind: u16) {
+pub(crate) fn spoil(random: &mut Random, input: &mut Vec<u8>) {
     match random.below(8) {
         0 => {
             let left = random.below(input.len() as u64 + 1);
@@ -76,26 +76,28 @@ pub(crate) fn spoil(random: &mut Random, input: &mut Vec<u8>, last_kind: u16) {
         1 => {
             let kind = random.pick(&[
                 0,
-                last_kind + 1,
-                last_kind + 2,
+                11,
+                13,
+                LAST_KIND + 1,
+                LAST_KIND + 2,
                 255,
                 256,
                 258,
-                256 + last_kind,
+                256 + LAST_KIND,
                 513,
                 u16::MAX,
             ]);
             input.extend(encode(kind, &[4096, 64]));
         }
         2 => {
-            let kind = random.between(1, u32::from(last_kind)) as u16;
+            let kind = random.between(1, u32::from(LAST_KIND)) as u16;
             let fields = vec![4104; random.below(6) as usize];
             input.extend(encode(kind, &fields));
         }
         3 => {
             let length = random.pick(&[0, 1, 2, 3, 4, 5, 7, 9, 13, u16::MAX]);
             input.extend(length.to_le_bytes());
-            input.extend(random.pick(&[2u16, 3, 9, last_kind]).to_le_bytes());
+            input.extend(random.pick(&[2u16, 3, 9, 10, 14, LAST_KIND]).to_le_bytes());
             input.extend([0; 16]);
         }
         _ => {}

@@ -1,10 +1,13 @@
 //! Shadow bytes: images of random lists, the same with damage, and noise.
 
-use crate::generate::call;
+use crate::block::{Beginning, Block};
+use crate::call::Call;
+use crate::generate::{call, inside};
 use crate::image::{image, Shadows};
 use crate::map::Map;
 use crate::plain::{List, PlainList};
 use crate::random::Random;
+use crate::reading::{Reading, View};
 
 /// A list that some random calls leave behind.
 pub fn list(random: &mut Random, map: Map, calls: u64) -> PlainList {
@@ -20,10 +23,54 @@ pub fn list(random: &mut Random, map: Map, calls: u64) -> PlainList {
 pub fn damaged(random: &mut Random, map: Map, changes: u64) -> Shadows {
     let calls = random.below(60);
     let mut shadows = image(map, list(random, map, calls).blocks());
+    let marks_alone = random.once_in(5);
     for _ in 0..changes {
-        change(random, &mut shadows);
+        match marks_alone {
+            true => change_low_bits(random, &mut shadows.primary),
+            false => change(random, &mut shadows),
+        }
     }
     shadows
+}
+
+/// Bytes of any kind, an image, a damaged one or noise, and a call that is drawn
+/// for what they read as.
+pub fn any(random: &mut Random, map: Map) -> (Shadows, Call) {
+    let changes = random.below(4);
+    let shadows = match random.below(6) {
+        0 => noise(random, map),
+        _ => damaged(random, map, changes),
+    };
+    let blocks = read_blocks(map, &shadows);
+    let call = match blocks.is_empty() || random.once_in(2) {
+        true => call(random, map, &blocks),
+        false => inside(random, &blocks),
+    };
+    (shadows, call)
+}
+
+/// The blocks that some address reads as the first byte of, on any bytes.
+pub fn read_blocks(map: Map, shadows: &Shadows) -> Vec<Block> {
+    let view = View {
+        map,
+        heap: &shadows.heap,
+        primary: &shadows.primary,
+        secondary: &shadows.secondary,
+    };
+    let areas = map.climbing().map(|area| map.bounds(area));
+    let addresses = areas.into_iter().flatten().map(|address| address as u32);
+    let begun = addresses.filter_map(|address| match view.read(address) {
+        Reading::Block(found) if found.offset == 0 => {
+            let beginning = match (found.literal, found.written) {
+                (true, _) => Beginning::Literal,
+                (false, true) => Beginning::Written,
+                (false, false) => Beginning::Unwritten,
+            };
+            Some(Block::begun(found.base, found.length, beginning))
+        }
+        _ => None,
+    });
+    begun.collect()
 }
 
 /// Bytes of no list: mostly zero, else what could stand in some image.
@@ -46,15 +93,19 @@ fn bytes(shadows: &mut Shadows) -> impl Iterator<Item = &mut u8> {
 fn telling_byte(random: &mut Random) -> u8 {
     match random.below(6) {
         0 => random.pick(&[1, 2, 3, 8, 9, 16, 17, 24, 25]),
-        1 => 4 * random.between(1, 37) as u8 + random.below(2) as u8,
-        2 => 192 + 4 * random.between(0, 15) as u8 + random.below(2) as u8,
+        1 => 4 * random.between(1, 37) as u8 + random.below(4) as u8,
+        2 => 192 + 4 * random.between(0, 15) as u8 + random.below(4) as u8,
         3 => random.pick(&[255, 248, 249, 128]),
         _ => random.number() as u8,
     }
 }
 
-/// One change: a bit, a byte, or a whole four-byte number.
+/// One change: a bit, a byte, a whole four-byte number, or the low bits of some
+/// primary bytes.
 pub(crate) fn change(random: &mut Random, shadows: &mut Shadows) {
+    if random.once_in(5) {
+        return change_low_bits(random, &mut shadows.primary);
+    }
     let shadow = match random.below(3) {
         0 => &mut shadows.heap,
         1 => &mut shadows.primary,
@@ -79,6 +130,29 @@ pub(crate) fn change(random: &mut Random, shadows: &mut Shadows) {
             let at = position - position % 4;
             shadow[at..at + 4].copy_from_slice(&number.to_le_bytes());
         }
+    }
+}
+
+/// Bit 1 or the written bit of a byte or of a few in a row: marks that are mixed
+/// over a block, bytes of a literal that are unwritten, whole blocks that become
+/// literals or end to be some, and at times bit 1 with no block.
+fn change_low_bits(random: &mut Random, primary: &mut [u8]) {
+    let with_no_block = random.once_in(6);
+    let count = random.pick(&[1, 1, 1, 2, 4, 8, 9, 16]);
+    let bits = random.pick(&[0b01, 0b10, 0b10, 0b11]);
+    let low = random.pick(&[0, bits, bits]);
+    let flip = random.once_in(2);
+    let bytes = primary.iter_mut();
+    let mut bytes: Vec<&mut u8> = bytes.filter(|byte| with_no_block || **byte >= 4).collect();
+    if bytes.is_empty() {
+        return;
+    }
+    let from = random.below(bytes.len() as u64) as usize;
+    for byte in bytes[from..].iter_mut().take(count) {
+        **byte = match flip {
+            true => **byte ^ bits,
+            false => **byte & !bits | low,
+        };
     }
 }
 

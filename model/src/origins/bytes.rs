@@ -5,7 +5,7 @@
 
 use std::ops::Range;
 
-use crate::block::placement;
+use crate::block::placement_as;
 use crate::bytes;
 use crate::call::{refusal, Answer, Call, Outcome, NO_FIELDS};
 use crate::map::{Area, Map, NULL};
@@ -76,8 +76,8 @@ impl Lent<'_> {
                 self.state.cells.stack.fill(0);
                 self.on_blocks(call)
             }
-            Call::Record { base, length } | Call::RecordWritten { base, length } => {
-                self.record(call, base, length)
+            Call::Record { .. } | Call::RecordWritten { .. } | Call::RecordLiteral { .. } => {
+                self.record(call)
             }
             Call::Free { base } => self.free(base),
             _ => self.on_blocks(call),
@@ -100,8 +100,9 @@ impl Lent<'_> {
         }
     }
 
-    fn record(&mut self, call: Call, base: u32, length: u32) -> Outcome {
-        let area = placement(self.map, base, length)?;
+    fn record(&mut self, call: Call) -> Outcome {
+        let (base, length, beginning) = call.recording().expect("a call that records");
+        let area = placement_as(beginning, self.map, base, length)?;
         if !base.is_multiple_of(CELL) {
             return Err(refusal::UNALIGNED);
         }

@@ -6,7 +6,7 @@ use crate::call::Call;
 pub const FIRST_ORIGIN: u64 = 1;
 pub const LAST_ORIGIN: u64 = 4_294_967_295;
 
-/// A plain call, or one of those that this form has alone.
+/// A plain call, or one of those that this form has alone, kinds 11 to 13.
 #[derive(Clone, Copy, Debug, PartialEq, Eq)]
 pub enum OriginsCall {
     Plain(Call),

@@ -84,10 +84,7 @@ impl Calls {
         }
         let (base, was) = random.pick(&self.freed);
         let length = random.pick(&[was, was, was + 1, was.saturating_sub(1), 4, 8]);
-        match random.once_in(3) {
-            true => Call::RecordWritten { base, length },
-            false => Call::Record { base, length },
-        }
+        generate::recording(random, base, length)
     }
 
     /// A pointer's cell: mostly one that a live block holds, or nearly holds.
@@ -133,16 +130,11 @@ fn aligned(random: &mut Random, call: Call) -> Call {
     }
     let short = random.between(1, 20);
     let bounded = |length: u32| if length > 40 { short } else { length };
-    match call {
-        Call::Record { base, length } => Call::Record {
-            base: containing(base),
-            length: bounded(length),
-        },
-        Call::RecordWritten { base, length } => Call::RecordWritten {
-            base: containing(base),
-            length: bounded(length),
-        },
-        call => call,
+    match call.recording() {
+        Some((base, length, beginning)) => {
+            Call::to_begin(beginning, containing(base), bounded(length))
+        }
+        None => call,
     }
 }
 

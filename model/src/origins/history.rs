@@ -44,8 +44,11 @@ impl History {
             return;
         }
         match call {
-            OriginsCall::Plain(Call::Record { base, length })
-            | OriginsCall::Plain(Call::RecordWritten { base, length }) => {
+            OriginsCall::Plain(
+                Call::Record { base, length }
+                | Call::RecordWritten { base, length }
+                | Call::RecordLiteral { base, length },
+            ) => {
                 let base = u64::from(base);
                 let addresses = base..base + u64::from(length);
                 self.live.push(Allocation { place, addresses });

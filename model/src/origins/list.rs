@@ -3,7 +3,7 @@
 
 use std::collections::BTreeMap;
 
-use crate::block::{placement, Block};
+use crate::block::{placement_as, Block};
 use crate::call::{refusal, Answer, Call, Outcome, NO_FIELDS};
 use crate::image::image;
 use crate::map::Map;
@@ -108,8 +108,8 @@ impl OriginsList {
 
     fn plain(&mut self, call: Call) -> Outcome {
         match call {
-            Call::Record { base, length } | Call::RecordWritten { base, length } => {
-                self.record(call, base, length)
+            Call::Record { .. } | Call::RecordWritten { .. } | Call::RecordLiteral { .. } => {
+                self.record(call)
             }
             Call::Free { base } => self.free(base),
             Call::Clear => {
@@ -121,8 +121,10 @@ impl OriginsList {
         }
     }
 
-    fn record(&mut self, call: Call, base: u32, length: u32) -> Outcome {
-        placement(self.map(), base, length)?;
+    /// Each way to record gives the block an origin.
+    fn record(&mut self, call: Call) -> Outcome {
+        let (base, length, beginning) = call.recording().expect("a call that records");
+        placement_as(beginning, self.map(), base, length)?;
         if !base.is_multiple_of(CELL) {
             return Err(refusal::UNALIGNED);
         }

@@ -1,4 +1,5 @@
-//! The calls program of this form: the plain kinds, and kinds 11 to 13.
+//! The calls program of this form: the plain kinds, 14 and 15 among them, and
+//! kinds 11 to 13.
 
 use crate::call::{refusal, Answer, Outcome, NO_FIELDS};
 use crate::map::Map;

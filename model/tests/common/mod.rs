@@ -1,6 +1,7 @@
 //! What several test files share.
 #![allow(dead_code)]
 
+use std::collections::HashMap;
 use std::path::PathBuf;
 
 use model::bytes;
@@ -38,6 +39,25 @@ pub fn table1() -> Vec<(u8, u32, u32)> {
         (numbers[0] as u8, numbers[1], numbers[2])
     })
     .collect()
+}
+
+/// A file of the samples program.
+pub fn stored(name: &str) -> String {
+    let path = PathBuf::from(env!("CARGO_MANIFEST_DIR"))
+        .join("../crates/samples")
+        .join(name);
+    std::fs::read_to_string(&path).unwrap_or_else(|error| panic!("{}: {error}", path.display()))
+}
+
+/// The stored right-hand side of each line of the input.
+pub fn right_hand_sides() -> HashMap<String, String> {
+    let (input, output) = (stored("stdin"), stored("stdout"));
+    let pairs = input.lines().zip(output.lines());
+    let sides = pairs.filter_map(|(line, answered)| {
+        let side = answered.strip_prefix(line)?.strip_prefix(" =>")?;
+        Some((line.to_owned(), side.trim_start().to_owned()))
+    });
+    sides.collect()
 }
 
 /// One call of the byte-level model.

@@ -13,11 +13,11 @@ returns c = rw (c .match .keys1)
 
 returns-2 : tie.Need-returns-2
 unfolding fieldsOf
-returns-2 c = rw (c .match .keys2)
+returns-2 c = ⊎-elim (λ e. rw e) (λ e. rw e) (c .match .keys2)
 
 returns-3 : tie.Need-returns-3
 unfolding fieldsOf
-returns-3 c = ⊎-elim (λ e. rw e) (⊎-elim (λ e. rw e) (⊎-elim (λ e. rw e) (λ e. rw e))) (c .match .keys3)
+returns-3 c = ⊎-elim (λ e. rw e) (⊎-elim (λ e. rw e) (⊎-elim (λ e. rw e) (⊎-elim (λ e. rw e) (λ e. rw e)))) (c .match .keys3)
 
 returns-4 : tie.Need-returns-4
 unfolding fieldsOf
@@ -31,7 +31,7 @@ returns-6 : tie.Need-returns-6
 returns-6 c =
     let r = c .match .rest in
     sym (ap lengthFor (no-kind _ (r .0 .0 .0 .0 .1) (λ e. r .0 .0 .1 (inl e)) (λ e. r .0 .1 (inl e)) (λ e. r .0 .0 .1 (inr (inl e)))
-    (λ e. r .0 .1 (inr (inl e))) (r .0 .0 .0 .1) (λ e. r .0 .0 .1 (inr (inr (inl e)))) (λ e. r .0 .1 (inr (inr e))) (r .1) (λ e. r .0 .0 .1 (inr (inr (inr e))))))
+    (λ e. r .0 .1 (inr (inl e))) (λ e. r .0 .0 .0 .1 (inl e)) (λ e. r .0 .0 .1 (inr (inr (inl e)))) (λ e. r .0 .1 (inr (inr e))) (r .1) (λ e. r .0 .0 .1 (inr (inr (inr (inl e))))) (λ e. r .0 .0 .1 (inr (inr (inr (inr e))))) (λ e. r .0 .0 .0 .1 (inr e))))
 
 pub record-length-spec : {M : Type 1} → statement M
 record-length-spec = tie.close (tie.spec returns returns-2 returns-3 returns-4 returns-5 returns-6)

@@ -9,7 +9,7 @@ use lib.ListN.{length}
 use Rattle.monitor_base.specs.Answers.{answerOf}
 use Rattle.calls_format.specs.Lines.{spaced}
 use Rattle.calls_format.specs.Writing.{fieldsTold}
-use Rattle.calls_format.proofs.LineLaws.{wrote-more-spaced, room, wrote-told, wrote-no, told-refused, told-four, told-two, told-one, told-live, told-no}
+use Rattle.calls_format.proofs.LineLaws.{wrote-more-spaced, room, wrote-told, wrote-no, told-refused, told-four, told-two, told-one, told-13-15, told-no}
 use borrow.Author.Needs.{needs}
 use Rattle.calls_lines.proofs.put_fields.Statement.{statement}
 use Rattle.calls_lines.proofs.put_fields.Tie as tie
@@ -32,11 +32,11 @@ two : (c : tie.At-match-keys2) → entry (c .before) .args .place
     ≤ length (now (entry (c .before) .args .line))
 two c = room (_ ∷ _ ∷ []) [] _ _ _ (told-two _ _ _ _ _ _ (c .before .if1 .left) (c .match .keys2)) (entry (c .before) .pre)
 
-live : (c : tie.At-match-keys3) → entry (c .before) .args .place
+late : (c : tie.At-match-keys3) → entry (c .before) .args .place
     + length (spaced (entry (c .before) .args .r .first ∷ []))
     + length (spaced [])
     ≤ length (now (entry (c .before) .args .line))
-live c = room (_ ∷ []) [] _ _ _ (told-live _ _ _ _ _ _ (c .before .if1 .left) (c .match .keys3)) (entry (c .before) .pre)
+late c = room (_ ∷ []) [] _ _ _ (told-13-15 _ _ _ _ _ _ (c .before .if1 .left) (c .match .keys3)) (entry (c .before) .pre)
 
 one-told : (c : tie.Then3) → fieldsTold (entry (c .before .before .before) .args .kind) (answerOf (entry (c .before .before .before) .args .r))
     ≡ entry (c .before .before .before) .args .r .first ∷ []
@@ -63,7 +63,7 @@ put-two-requires-3 : tie.Need-put-two-requires-3
 put-two-requires-3 c κs = omega (arith, two (c .before))
 
 put-spaced-requires : tie.Need-put-spaced-requires
-put-spaced-requires c κs = omega (arith, live (c .before))
+put-spaced-requires c κs = omega (arith, late (c .before))
 
 put-spaced-requires-2 : tie.Need-put-spaced-requires-2
 put-spaced-requires-2 c κs = omega (arith, one (c .before))
@@ -91,7 +91,7 @@ same-length-3 c = search needs
 returns-4 : tie.Need-returns-4
 returns-4 c =
     let k = c .before .before .before .before in
-    wrote-told (_ ∷ []) _ _ _ _ _ (told-live _ _ _ _ _ _ (k .before .if1 .left) (k .match .keys3)) (c .before .before .put-spaced .ensures)
+    wrote-told (_ ∷ []) _ _ _ _ _ (told-13-15 _ _ _ _ _ _ (k .before .if1 .left) (k .match .keys3)) (c .before .before .put-spaced .ensures)
 
 same-length-4 : tie.Need-same-length-4
 same-length-4 c = search needs
@@ -102,12 +102,12 @@ returns-5 c =
 
 returns-6 : tie.Need-returns-6
 returns-6 c =
-    wrote-no _ _ _ (told-no _ _ _ _ _ _ (c .before .before .if1 .left) (omega arith) (omega arith) (omega arith) (omega arith) (omega arith) (omega arith))
+    wrote-no _ _ _ (told-no _ _ _ _ _ _ (c .before .before .if1 .left) (omega arith) (omega arith) (omega arith) (omega arith) (omega arith) (omega arith) (omega arith))
 
 returns-7 : tie.Need-returns-7
 returns-7 c =
     let r = c .before .before .match .rest in
-    wrote-no _ _ _ (told-no _ _ _ _ _ _ (c .before .before .before .if1 .left) (omega arith) (omega arith) (omega arith) (r .0 .1) (λ e. r .0 .0 .1 (inr e)) (r .1))
+    wrote-no _ _ _ (told-no _ _ _ _ _ _ (c .before .before .before .if1 .left) (omega arith) (omega arith) (omega arith) (r .0 .1) (λ e. r .0 .0 .1 (inr e)) (λ e. r .1 (inl e)) (λ e. r .1 (inr e)))
 
 pub put-fields-spec : {M : Type 1} → statement M
 put-fields-spec =

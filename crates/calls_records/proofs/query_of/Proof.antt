@@ -1,10 +1,11 @@
 -- `calls_records::query_of` meets its contract. Assumes nothing.
+use mathlib.Core.Logic.{inl, inr}
 use Prim.Native.Nat.{_≤_}
 use native.Mathlib.Omega.{arith}
 use denote.Ref.{now}
 use lib.ListN.{length}
 use Rattle.calls_format.specs.Records.{fieldsOf, requestOf}
-use Rattle.calls_format.proofs.RecordLaws.{reach, last-read}
+use Rattle.calls_format.proofs.RecordLaws.{reach, last-read, valid-request, valid-long}
 use Rattle.calls_records.proofs.query_of.Statement.{statement}
 use Rattle.calls_records.proofs.query_of.Tie as tie
 
@@ -14,8 +15,7 @@ unfolding fieldsOf
 long-5 c = reach 5 (c .match .keys1) (c .before .before .pre .2)
 
 long-6 : (c : tie.At-match-keys2) → 16 ≤ length (now (c .before .before .args .s))
-unfolding fieldsOf
-long-6 c = reach 6 (c .match .keys2) (c .before .before .pre .2)
+long-6 c = valid-long (c .match .keys2) (c .before .before .pre .2)
 
 long-7 : (c : tie.At-match-keys3) → 12 ≤ length (now (c .before .before .args .s))
 unfolding fieldsOf
@@ -51,8 +51,8 @@ unfolding requestOf
 returns c = rw (c .before .match .keys1, c .field .ensures)
 
 returns-2 : tie.Need-returns-2
-unfolding requestOf
-returns-2 c = rw (c .before .before .before .match .keys2, c .before .before .field2 .ensures, c .before .field3 .ensures, c .field4 .ensures)
+returns-2 c =
+    rw (c .before .before .field2 .ensures, c .before .field3 .ensures, c .field4 .ensures) (valid-request _ _ (c .before .before .before .match .keys2))
 
 returns-3 : tie.Need-returns-3
 unfolding requestOf
@@ -65,7 +65,7 @@ returns-4 c = rw (c .before .match .keys4, c .field7 .ensures)
 returns-5 : tie.Need-returns-5
 returns-5 c =
     let r = c .match .rest in
-    last-read _ _ (c .before .before .pre .0) (c .before .before .pre .1) (r .0 .0 .0 .1) (r .0 .0 .1) (r .0 .1) (r .1)
+    last-read _ _ (c .before .before .pre .0) (c .before .before .pre .1) (r .0 .0 .0 .1) (λ e. r .0 .0 .1 (inl e)) (r .0 .1) (r .1) (λ e. r .0 .0 .1 (inr e))
 
 pub query-of-spec : {M : Type 1} → statement M
 query-of-spec =

@@ -1,6 +1,6 @@
 -- `heap_read::read` meets its contract: each return is one line of the definition. Assumes nothing.
 use mathlib.Core.Path.{_≡_, _∙_}
-use Prim.Native.Nat.{_+_, _*_, _-_, _/_, _≤_}
+use Prim.Native.Nat.{_+_, _*_, _-_, _/_, _%_, _≤_}
 use native.Mathlib.Omega.{arith}
 use denote.Ref.{now}
 use lib.ListN.{length}
@@ -9,7 +9,7 @@ use borrow.Author.Tests.{lt-ltb, le-ltb, le-leb, lt-leb, eq-eqb, ne-eqb}
 use Rattle.number.specs.Parts.{at}
 use Rattle.number.proofs.LittleLaws.{le-word}
 use Rattle.heap_layout.specs.Reading.{heapReading}
-use Rattle.heap_laws.proofs.MarkLaws.{bit-at}
+use Rattle.heap_laws.proofs.MarkLaws.{bit-at, bit-alone}
 use Rattle.heap_laws.proofs.ReadLaws.{told, read-told}
 use Rattle.heap_read.proofs.read.Statement.{statement}
 use Rattle.heap_read.proofs.read.Tie as tie
@@ -113,6 +113,7 @@ cast-t15 c = search needs
 returns-7 : tie.Need-returns-7
 returns-7 c =
     let a = c .before .before .before .before .before .before .before .before .before .before .before .before .args in
+    let k = bit-alone (at (now (a .heap)) (a .p .0 / 8 * 8 + 4)) (a .p .0 % 8) in
     rw (
       found (c .before .before .before .before .before),
       le-ltb _ _ (c .before .before .before .before .if4 .left),
@@ -120,6 +121,8 @@ returns-7 c =
       lt-leb _ _ (c .before .before .if6 .left),
       bit-at (at (now (a .heap))) (a .p .0),
       c .bit .ensures,
+      k .0,
+      k .1,
     )
 
 pub read-spec : {M : Type 1} → statement M

@@ -1,5 +1,6 @@
 -- `monitor_ask::told` meets its contract. Assumes nothing.
 use native.Mathlib.Omega.{arith}
+use lib.Bits.{and-mask}
 use borrow.Author.Needs.{needs}
 use Rattle.monitor_ask.proofs.told.Statement.{statement}
 use Rattle.monitor_ask.proofs.told.Tie as tie
@@ -32,7 +33,7 @@ returns-2 : tie.Need-returns-2
 returns-2 c = rw (c .before .enum-told2 .given .1) (c .refusal2 .ensures)
 
 returns-3 : tie.Need-returns-3
-returns-3 c = rw (c .before .before .r .given .1, c .to-address .ensures)
+returns-3 c = rw (c .before .before .r .given .1, c .to-address .ensures, and-mask _ 1)
 
 pub told-spec : {M : Type 1} → statement M
 told-spec =

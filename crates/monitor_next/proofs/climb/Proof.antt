@@ -119,7 +119,7 @@ returns-3 c =
     let e = entry (turn k) in
     let t = first-at (e .args .map) (shadows e) (e .pre .0) (e .pre .1) (here (turn k)) (l .locate .result) (l .locate .ensures) (low k)
     _ (r .reading .ensures) (sym (f .first .ensures) ∙ c .before .if3 .taken) in
-    rw (c .length-of .ensures) (sym (ap searchOf (turn k .loop .inv ∙ t .1)))
+    rw (c .length-of .ensures) (sym (ap searchOf (turn k .loop .inv ∙ t .2)))
 
 pub climb-spec : {M : Type 1} → statement M
 climb-spec =

@@ -1,25 +1,13 @@
--- `monitor_record::begin` meets its contract: the check, then the effect. Assumes nothing.
-use denote.Ref.{now}
-use Rattle.shadows.specs.Shadows.{Shadows}
-use Rattle.monitor_write_laws.proofs.RecordChecks.{record-refused, record-done}
+-- `monitor_record::begin` meets its contract: the number is the answer. Assumes nothing.
 use borrow.Author.Needs.{needs}
 use Rattle.monitor_record.proofs.begin.Statement.{statement}
 use Rattle.monitor_record.proofs.begin.Tie as tie
 
--- the function's entry, from where the check is done
-abbrev entry : tie.After-check → tie.Start
-entry c = c .before .before .before .before .before .before .before
+numbered-requires : tie.Need-numbered-requires
+numbered-requires c κs = search needs
 
-abbrev shadows : tie.Start → Shadows
-shadows c = (now (c .args .heap), (now (c .args .primary), now (c .args .secondary)))
-
-check-requires : tie.Need-check-requires
-check-requires c κs = search needs
-
-stamp-requires : tie.Need-stamp-requires
-stamp-requires c κs =
-    let i = c .before .before .before in
-    i .before .check .ensures .1 (i .if1 .taken) .1
+refusal-requires : tie.Need-refusal-requires
+refusal-requires c κs = search needs
 
 same-length : tie.Need-same-length
 same-length c = search needs
@@ -31,40 +19,9 @@ same-length-3 : tie.Need-same-length-3
 same-length-3 c = search needs
 
 returns : tie.Need-returns
-returns c =
-    let x = c .before .before .before .before .before .before in
-    let i = x .before .before .before .before in
-    let k = i .before in
-    let e = entry k in
-    record-done (e .args .map) (shadows e) (e .args .base .0) (e .args .len) (e .args .written) _ (k .check .ensures .0) (i .if1 .taken) (k .check .result .place) (k .check .ensures .1 (i .if1 .taken) .0) _
-    (x .stamp .ensures)
-
-same-length-4 : tie.Need-same-length-4
-same-length-4 c = search needs
-
-same-length-5 : tie.Need-same-length-5
-same-length-5 c = search needs
-
-same-length-6 : tie.Need-same-length-6
-same-length-6 c = search needs
-
-returns-2 : tie.Need-returns-2
-returns-2 c =
-    let k = c .before in
-    let e = entry k in
-    record-refused (e .args .map) (shadows e) (e .args .base .0) (e .args .len) (e .args .written) _ (k .check .ensures .0) (c .if1 .left)
+returns c = rw (c .refusal .ensures) (c .before .before .before .before .before .before .before .numbered .ensures)
 
 pub begin-spec : {M : Type 1} → statement M
 begin-spec =
     tie.close
-    (tie.spec
-    check-requires
-    stamp-requires
-    same-length
-    same-length-2
-    same-length-3
-    returns
-    same-length-4
-    same-length-5
-    same-length-6
-    returns-2)
+    (tie.spec numbered-requires refusal-requires same-length same-length-2 same-length-3 returns)

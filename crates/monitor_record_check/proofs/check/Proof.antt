@@ -4,7 +4,7 @@ use mathlib.Core.Bool.{true}
 use native.Mathlib.Omega.{arith}
 use denote.Ref.{now}
 use Rattle.map.specs.Map.{goodMap}
-use Rattle.plain.specs.Call.{record-block}
+use Rattle.plain.specs.Call.{Call, begin}
 use Rattle.shadows.specs.Shadows.{Shadows, lengthsFit}
 use Rattle.monitor_base.specs.Locating.{Lies}
 use Rattle.monitor_base.specs.declared.Located.{Located}
@@ -12,7 +12,7 @@ use Rattle.monitor_base.specs.declared.Located.the-variants.{Heap, Stack, Outsi
 use Rattle.monitor_base.proofs.CallLaws.{early-good}
 use Rattle.monitor_base.proofs.LocatingLaws.{heap-there, stack-there, heap-end, stack-end}
 use Rattle.monitor_write_laws.proofs.CheckLaws.{number-early}
-use Rattle.monitor_write_laws.proofs.RecordChecks.{record-3, record-4, record-heap, record-stack, stampable}
+use Rattle.monitor_write_laws.proofs.RecordChecks.{no-literal, record-3, record-4, literal-4, record-heap, record-stack, stampable}
 use borrow.Author.Needs.{needs}
 use Rattle.monitor_record_check.proofs.check.Statement.{statement}
 use Rattle.monitor_record_check.proofs.check.Tie as tie
@@ -28,6 +28,9 @@ good-fit : (c : tie.Else1) → (goodMap (entry (c .before) .args .map) ≡ true)
 unfolding lengthsFit
 good-fit c = early-good (entry (c .before) .args .map) (shadows (entry (c .before))) (sym (c .if1 .left) ∙ c .before .checked .ensures)
 
+abbrev asked : tie.Start → Call
+asked c = begin (c .args .how) (c .args .base .0) (c .args .len)
+
 -- the address lies in the heap, in the stack, in neither
 abbrev lies : tie.After-locate → Located → Type 0
 lies c = let e = entry (c .before .before .before) in Lies (e .args .map) (e .args .base .0)
@@ -38,8 +41,8 @@ in-heap c = rw (c .place .given .1) at (c .before .before .locate .ensures)
 in-stack : (c : tie.After-place2) → lies (c .before .before) (Stack (c .place2 .given .0 .0))
 in-stack c = rw (c .place2 .given .1) at (c .before .before .locate .ensures)
 
-outside : (c : tie.After-enum-told) → lies (c .before .before) Outside
-outside c = rw (c .enum-told .given .1) at (c .before .before .locate .ensures)
+outside : (c : tie.After-enum-told2) → lies (c .before .before) Outside
+outside c = rw (c .enum-told2 .given .1) at (c .before .before .locate .ensures)
 
 checked-requires : tie.Need-checked-requires
 checked-requires c κs = search needs
@@ -48,13 +51,13 @@ returns : tie.Need-returns
 unfolding lengthsFit
 returns c =
     let e = entry (c .before) in
-    (number-early (e .args .map) (record-block (e .args .base .0) (e .args .len)) (shadows e) _ (c .before .checked .ensures) (c .if1 .taken), λ z. absurd (c .if1 .taken z))
+    (number-early (e .args .map) (asked e) (shadows e) _ (c .before .checked .ensures) (c .if1 .taken), λ z. absurd (c .if1 .taken z))
 
 returns-2 : tie.Need-returns-2
 returns-2 c =
     let e = entry (c .before .before) in
     let g = good-fit (c .before) in
-    (record-3 (e .args .map) (shadows e) (e .args .base .0) (e .args .len) (g .0) (g .1) (c .if2 .taken), λ z. absurd (omega arith))
+    (record-3 (e .args .map) (shadows e) (e .args .base .0) (e .args .len) (e .args .how) (g .0) (g .1) (c .if2 .taken), λ z. absurd (omega arith))
 
 locate-requires : tie.Need-locate-requires
 locate-requires c κs = search needs
@@ -62,12 +65,24 @@ locate-requires c κs = search needs
 enum-known-place : tie.Need-enum-known-place
 enum-known-place c = search needs
 
+enum-told : tie.Need-enum-told
+enum-told c = search needs
+
+-- a literal in the heap
+returns-3 : tie.Need-returns-3
+returns-3 c =
+    let p = c .before .before .before in
+    let l = p .before .before in
+    let e = entry (l .before .before .before) in
+    let g = good-fit (l .before .before) in
+    (literal-4 (e .args .map) (shadows e) (e .args .base .0) (e .args .len) (e .args .how) (g .0) (g .1) (l .before .if2 .left) (c .enum-told .given .1) (in-heap p .0), λ z. absurd (omega arith))
+
 end-requires : tie.Need-end-requires
-end-requires c κs = good-fit (c .before .before .before .before .before) .0
+end-requires c κs = good-fit (c .before .before .before .before .before .before) .0
 
 on-heap-requires : tie.Need-on-heap-requires
 on-heap-requires c κs =
-    let p = c .before .before in
+    let p = c .before .before .before in
     let l = p .before .before in
     let e = entry (l .before .before .before) in
     let g = good-fit (l .before .before) in
@@ -93,35 +108,37 @@ on-stack-requires c κs =
       stack-there (e .args .map) (shadows e) (g .0) (g .1) (e .args .base .0) _ (h .0) (h .1),
     )
 
-enum-told : tie.Need-enum-told
-enum-told c = search needs
+enum-told-2 : tie.Need-enum-told-2
+enum-told-2 c = search needs
 
-returns-3 : tie.Need-returns-3
-returns-3 c =
-    let p = c .before .before .before in
+returns-4 : tie.Need-returns-4
+returns-4 c =
+    let t = c .before .before in
+    let p = t .before .before in
     let l = p .before .before in
     let e = entry (l .before .before .before) in
     let g = good-fit (l .before .before) in
     let h = in-heap p in
-    let n = c .on-heap .ensures ∙ record-heap (e .args .map) (shadows e) (e .args .base .0) (e .args .len) (g .0) (g .1) _ (h .0) (h .1) in
-    (n, λ z. (h, stampable (e .args .map) (shadows e) (e .args .base .0) (e .args .len) (sym n ∙ z) (Heap _) h))
+    let o = no-literal (e .args .how) (t .match2 .keys2) in
+    let n = c .on-heap .ensures ∙ record-heap (e .args .map) (shadows e) (e .args .base .0) (e .args .len) (e .args .how) (g .0) (g .1) _ o (h .0) (h .1) in
+    (n, λ z. (h, stampable (e .args .map) (shadows e) (e .args .base .0) (e .args .len) (e .args .how) (sym n ∙ z) (Heap _) h))
 
-returns-4 : tie.Need-returns-4
-returns-4 c =
+returns-5 : tie.Need-returns-5
+returns-5 c =
     let p = c .before .before .before in
     let l = p .before .before in
     let e = entry (l .before .before .before) in
     let g = good-fit (l .before .before) in
     let h = in-stack p in
-    let n = c .on-stack .ensures ∙ record-stack (e .args .map) (shadows e) (e .args .base .0) (e .args .len) (g .0) (g .1) _ (h .0) (h .1) in
-    (n, λ z. (h, stampable (e .args .map) (shadows e) (e .args .base .0) (e .args .len) (sym n ∙ z) (Stack _) h))
+    let n = c .on-stack .ensures ∙ record-stack (e .args .map) (shadows e) (e .args .base .0) (e .args .len) (e .args .how) (g .0) (g .1) _ (h .0) (h .1) in
+    (n, λ z. (h, stampable (e .args .map) (shadows e) (e .args .base .0) (e .args .len) (e .args .how) (sym n ∙ z) (Stack _) h))
 
-returns-5 : tie.Need-returns-5
-returns-5 c =
+returns-6 : tie.Need-returns-6
+returns-6 c =
     let l = c .before .before in
     let e = entry (l .before .before .before) in
     let g = good-fit (l .before .before) in
-    (record-4 (e .args .map) (shadows e) (e .args .base .0) (e .args .len) (g .0) (g .1) (l .before .if2 .left) (outside c), λ z. absurd (omega arith))
+    (record-4 (e .args .map) (shadows e) (e .args .base .0) (e .args .len) (e .args .how) (g .0) (g .1) (l .before .if2 .left) (outside c), λ z. absurd (omega arith))
 
 pub check-spec : {M : Type 1} → statement M
 check-spec =
@@ -132,12 +149,14 @@ check-spec =
     returns-2
     locate-requires
     enum-known-place
+    enum-told
+    returns-3
     end-requires
     on-heap-requires
     enum-known-place-2
     end-requires-2
     on-stack-requires
-    enum-told
-    returns-3
+    enum-told-2
     returns-4
-    returns-5)
+    returns-5
+    returns-6)

@@ -12,23 +12,17 @@ clear-requires c κs = search needs
 enum-known-update : tie.Need-enum-known-update
 enum-known-update c = search needs
 
-record-requires : tie.Need-record-requires
-record-requires c κs = search needs
+begin-requires : tie.Need-begin-requires
+begin-requires c κs = search needs
 
 enum-known-update-2 : tie.Need-enum-known-update-2
 enum-known-update-2 c = search needs
 
-record-written-requires : tie.Need-record-written-requires
-record-written-requires c κs = search needs
-
-enum-known-update-3 : tie.Need-enum-known-update-3
-enum-known-update-3 c = search needs
-
 free-requires : tie.Need-free-requires
 free-requires c κs = search needs
 
-enum-known-update-4 : tie.Need-enum-known-update-4
-enum-known-update-4 c = search needs
+enum-known-update-3 : tie.Need-enum-known-update-3
+enum-known-update-3 c = search needs
 
 written-requires : tie.Need-written-requires
 written-requires c κs = search needs
@@ -55,7 +49,7 @@ same-length-6 : tie.Need-same-length-6
 same-length-6 c = search needs
 
 returns-2 : tie.Need-returns-2
-returns-2 c = rw (c .before .before .before .before .before .before .before .before .before .before .before .update .given .1) (c .before .before .before .before .before .before .«record» .ensures)
+returns-2 c = rw (c .before .before .before .before .before .before .before .before .before .before .before .update .given .1) (c .before .before .before .before .before .before .begin .ensures)
 
 same-length-7 : tie.Need-same-length-7
 same-length-7 c = search needs
@@ -67,7 +61,7 @@ same-length-9 : tie.Need-same-length-9
 same-length-9 c = search needs
 
 returns-3 : tie.Need-returns-3
-returns-3 c = rw (c .before .before .before .before .before .before .before .before .before .before .before .update2 .given .1) (c .before .before .before .before .before .before .record-written .ensures)
+returns-3 c = rw (c .before .before .before .before .before .before .before .before .before .before .before .update2 .given .1) (c .before .before .before .before .before .before .free .ensures)
 
 same-length-10 : tie.Need-same-length-10
 same-length-10 c = search needs
@@ -79,19 +73,7 @@ same-length-12 : tie.Need-same-length-12
 same-length-12 c = search needs
 
 returns-4 : tie.Need-returns-4
-returns-4 c = rw (c .before .before .before .before .before .before .before .before .before .before .before .update3 .given .1) (c .before .before .before .before .before .before .free .ensures)
-
-same-length-13 : tie.Need-same-length-13
-same-length-13 c = search needs
-
-same-length-14 : tie.Need-same-length-14
-same-length-14 c = search needs
-
-same-length-15 : tie.Need-same-length-15
-same-length-15 c = search needs
-
-returns-5 : tie.Need-returns-5
-returns-5 c = rw (c .before .before .before .before .before .before .before .before .before .before .before .update4 .given .1) (c .before .before .before .before .before .before .written .ensures)
+returns-4 c = rw (c .before .before .before .before .before .before .before .before .before .before .before .update3 .given .1) (c .before .before .before .before .before .before .written .ensures)
 
 pub update-step-spec : {M : Type 1} → statement M
 update-step-spec =
@@ -100,12 +82,10 @@ update-step-spec =
     enum-told
     clear-requires
     enum-known-update
-    record-requires
+    begin-requires
     enum-known-update-2
-    record-written-requires
-    enum-known-update-3
     free-requires
-    enum-known-update-4
+    enum-known-update-3
     written-requires
     same-length
     same-length-2
@@ -122,8 +102,4 @@ update-step-spec =
     same-length-10
     same-length-11
     same-length-12
-    returns-4
-    same-length-13
-    same-length-14
-    same-length-15
-    returns-5)
+    returns-4)

@@ -24,7 +24,7 @@ abbrev shadows : tie.Start → Shadows
 shadows c = (now (c .args .heap), (now (c .args .primary), now (c .args .secondary)))
 
 abbrev asked : tie.Start → Call
-asked c = valid (c .args .a .0) (c .args .n) (c .args .from .0)
+asked c = valid (c .args .write) (c .args .a .0) (c .args .n) (c .args .from .0)
 
 good : (c : tie.Else1) → (goodMap (entry c .args .map) ≡ true) × (lengthsFit (entry c .args .map) (shadows (entry c)) ≡ true)
 unfolding lengthsFit
@@ -63,7 +63,7 @@ returns-2 c =
     let e = entry (c .before .before) in
     let g = good (c .before .before) in
     answers (e .args .map) (asked e) (shadows e) (c .refusal2 .result) _ (c .refusal2 .ensures)
-    (valid-none (e .args .map) (shadows e) (g .0) (g .1) (e .args .a .0) (e .args .n) (e .args .from .0) (c .before .if2 .taken))
+    (valid-none (e .args .map) (shadows e) (g .0) (g .1) (e .args .write) (e .args .a .0) (e .args .n) (e .args .from .0) (c .before .if2 .taken))
 
 locate-requires : tie.Need-locate-requires
 locate-requires c κs = search needs
@@ -102,8 +102,8 @@ returns-3 c =
     let e = entry (z .before) in
     let g = good (z .before) in
     let h = in-heap (c .before .before) in
-    answers (e .args .map) (asked e) (shadows e) (c .valid-heap .result) _ (c .valid-heap .ensures)
-    (valid-reads (e .args .map) (shadows e) (g .0) (g .1) (e .args .a .0) (e .args .n) (e .args .from .0) (z .if2 .left) _
+    answers (e .args .map) (asked e) (shadows e) (c .valid-heap .result) _ (c .valid-heap .ensures (e .args .write))
+    (valid-reads (e .args .map) (shadows e) (g .0) (g .1) (e .args .write) (e .args .a .0) (e .args .n) (e .args .from .0) (z .if2 .left) _
     (read-heap (e .args .map) (shadows e) (g .0) (g .1) (e .args .a .0) _ (h .0) (h .1) .0))
 
 returns-4 : tie.Need-returns-4
@@ -113,7 +113,7 @@ returns-4 c =
     let g = good (z .before) in
     let h = in-stack (c .before .before) in
     answers (e .args .map) (asked e) (shadows e) (c .valid-stack .result) _ (c .valid-stack .ensures)
-    (valid-reads (e .args .map) (shadows e) (g .0) (g .1) (e .args .a .0) (e .args .n) (e .args .from .0) (z .if2 .left) _
+    (valid-reads (e .args .map) (shadows e) (g .0) (g .1) (e .args .write) (e .args .a .0) (e .args .n) (e .args .from .0) (z .if2 .left) _
     (read-stack (e .args .map) (shadows e) (g .0) (g .1) (e .args .a .0) _ (h .0) (h .1) .0))
 
 returns-5 : tie.Need-returns-5
@@ -121,8 +121,8 @@ returns-5 c =
     let z = c .before .before .before .before in
     let e = entry (z .before) in
     let g = good (z .before) in
-    answers (e .args .map) (asked e) (shadows e) (c .valid-outside .result) _ (c .valid-outside .ensures (e .args .n))
-    (valid-reads (e .args .map) (shadows e) (g .0) (g .1) (e .args .a .0) (e .args .n) (e .args .from .0) (z .if2 .left) _
+    answers (e .args .map) (asked e) (shadows e) (c .valid-outside .result) _ (c .valid-outside .ensures (e .args .write) (e .args .n))
+    (valid-reads (e .args .map) (shadows e) (g .0) (g .1) (e .args .write) (e .args .a .0) (e .args .n) (e .args .from .0) (z .if2 .left) _
     (read-out (e .args .map) (shadows e) (e .args .a .0) (outside (c .before)) .0))
 
 pub valid-spec : {M : Type 1} → statement M

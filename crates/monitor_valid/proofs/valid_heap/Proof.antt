@@ -50,13 +50,13 @@ judged-requires : tie.Need-judged-requires
 judged-requires c κs = search needs
 
 returns : tie.Need-returns
-returns c =
+returns c w =
     let q = c .before .before .before .before .before in
     let l = q .before .before in
     let e = entry l in
     let h = in-heap q in
     let f = l .before .read .ensures in
-    valid-heap-heap (e .args .map) (shadows e) (e .pre .0) (e .pre .1) (e .args .n) _ _ (e .args .from .0) (q .q .given .0 .0 .0) _ (e .args .p .0) f (h .0) (h .1)
+    valid-heap-heap (e .args .map) (shadows e) (e .pre .0) (e .pre .1) w (e .args .n) _ _ (e .args .from .0) (q .q .given .0 .0 .0) _ (e .args .p .0) f (h .0) (h .1)
     (f ∙ ap (heapReading 4 8 (length (now (e .args .heap))) (at (now (e .args .heap)))) (sym (c .before .if1 .taken))) (c .judged .ensures)
 
 read-requires-2 : tie.Need-read-requires-2
@@ -89,28 +89,28 @@ apart-requires-2 : tie.Need-apart-requires-2
 apart-requires-2 c κs = search needs
 
 returns-2 : tie.Need-returns-2
-returns-2 c =
+returns-2 c w =
     let q = c .before .before .before .before .before .before in
     let l = q .before .before in
     let e = entry l in
     let h = in-heap q in
-    valid-heap-heap (e .args .map) (shadows e) (e .pre .0) (e .pre .1) (e .args .n) _ _ (e .args .from .0) (q .q .given .0 .0 .0) _ (e .args .p .0) (l .before .read .ensures) (h .0) (h .1)
+    valid-heap-heap (e .args .map) (shadows e) (e .pre .0) (e .pre .1) w (e .args .n) _ _ (e .args .from .0) (q .q .given .0 .0 .0) _ (e .args .p .0) (l .before .read .ensures) (h .0) (h .1)
     (c .before .read2 .ensures) (c .judged2 .ensures)
 
 returns-3 : tie.Need-returns-3
-returns-3 c =
+returns-3 c w =
     let q = c .before .before .before in
     let l = q .before .before in
     let e = entry l in
     let h = in-stack q in
-    valid-heap-stack (e .args .map) (shadows e) (e .pre .0) (e .pre .1) (e .args .n) _ _ (e .args .from .0) (q .q2 .given .0 .0 .0) _ (e .args .p .0) (l .before .read .ensures) (h .0) (h .1)
+    valid-heap-stack (e .args .map) (shadows e) (e .pre .0) (e .pre .1) w (e .args .n) _ _ (e .args .from .0) (q .q2 .given .0 .0 .0) _ (e .args .p .0) (l .before .read .ensures) (h .0) (h .1)
     (c .before .read3 .ensures) (c .apart .ensures)
 
 returns-4 : tie.Need-returns-4
-returns-4 c =
+returns-4 c w =
     let l = c .before .before .before in
     let e = entry l in
-    valid-out (e .args .map) (shadows e) (e .pre .0) (e .pre .1) (e .args .n) (e .args .map .«heap_start») _ _ (e .args .from .0) _ (l .before .read .ensures) (outside (c .before)) (c .apart2 .ensures)
+    valid-out (e .args .map) (shadows e) (e .pre .0) (e .pre .1) w (e .args .n) (e .args .map .«heap_start») _ _ (e .args .from .0) _ (l .before .read .ensures) (outside (c .before)) (c .apart2 .ensures)
 
 pub valid-heap-spec : {M : Type 1} → statement M
 valid-heap-spec =

@@ -66,23 +66,23 @@ yes-no-requires : tie.Need-yes-no-requires
 yes-no-requires c κs = search needs
 
 returns : tie.Need-returns
-returns c n =
+returns c w n =
     let q = c .before .before .before in
     let e = entry (q .before .before) in
     let h = in-heap q in
-    valid-out-heap (e .args .map) (shadows e) (e .pre .0) (e .pre .1) n _ (e .args .from .0) (q .q .given .0 .0 .0) _ (h .0) (h .1) (c .before .read .ensures) (c .apart .ensures)
+    valid-out-heap (e .args .map) (shadows e) (e .pre .0) (e .pre .1) w n _ (e .args .from .0) (q .q .given .0 .0 .0) _ (h .0) (h .1) (c .before .read .ensures) (c .apart .ensures)
 
 returns-2 : tie.Need-returns-2
-returns-2 c n =
+returns-2 c w n =
     let q = c .before .before .before in
     let e = entry (q .before .before) in
     let h = in-stack q in
-    valid-out-stack (e .args .map) (shadows e) (e .pre .0) (e .pre .1) n _ (e .args .from .0) (q .q2 .given .0 .0 .0) _ (h .0) (h .1) (c .before .read2 .ensures) (c .apart2 .ensures)
+    valid-out-stack (e .args .map) (shadows e) (e .pre .0) (e .pre .1) w n _ (e .args .from .0) (q .q2 .given .0 .0 .0) _ (h .0) (h .1) (c .before .read2 .ensures) (c .apart2 .ensures)
 
 returns-3 : tie.Need-returns-3
-returns-3 c n =
+returns-3 c w n =
     let e = entry (c .before .before .before) in
-    valid-out-out (e .args .map) (shadows e) (e .pre .0) (e .pre .1) n (e .args .from .0) _ (outside (c .before)) (c .yes-no .ensures)
+    valid-out-out (e .args .map) (shadows e) (e .pre .0) (e .pre .1) w n (e .args .from .0) _ (outside (c .before)) (c .yes-no .ensures)
 
 pub valid-outside-spec : {M : Type 1} → statement M
 valid-outside-spec =

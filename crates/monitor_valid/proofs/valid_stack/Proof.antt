@@ -56,7 +56,7 @@ returns c =
     let e = entry l in
     let h = in-stack q in
     let f = l .before .read .ensures in
-    valid-stack-stack (e .args .map) (shadows e) (e .pre .0) (e .pre .1) (e .args .n) _ _ (e .args .from .0) (q .q .given .0 .0 .0) _ (e .args .p .0) f (h .0) (h .1)
+    valid-stack-stack (e .args .map) (shadows e) (e .pre .0) (e .pre .1) (e .args .write) (e .args .n) _ _ (e .args .from .0) (q .q .given .0 .0 .0) _ (e .args .p .0) f (h .0) (h .1)
     (f ∙ ap (stackReading (length (now (e .args .primary))) (at (now (e .args .primary))) (at (now (e .args .secondary)))) (sym (c .before .if1 .taken))) (c .judged .ensures)
 
 read-requires-2 : tie.Need-read-requires-2
@@ -94,7 +94,7 @@ returns-2 c =
     let l = q .before .before in
     let e = entry l in
     let h = in-stack q in
-    valid-stack-stack (e .args .map) (shadows e) (e .pre .0) (e .pre .1) (e .args .n) _ _ (e .args .from .0) (q .q .given .0 .0 .0) _ (e .args .p .0) (l .before .read .ensures) (h .0) (h .1)
+    valid-stack-stack (e .args .map) (shadows e) (e .pre .0) (e .pre .1) (e .args .write) (e .args .n) _ _ (e .args .from .0) (q .q .given .0 .0 .0) _ (e .args .p .0) (l .before .read .ensures) (h .0) (h .1)
     (c .before .read2 .ensures) (c .judged2 .ensures)
 
 returns-3 : tie.Need-returns-3
@@ -103,14 +103,14 @@ returns-3 c =
     let l = q .before .before in
     let e = entry l in
     let h = in-heap q in
-    valid-stack-heap (e .args .map) (shadows e) (e .pre .0) (e .pre .1) (e .args .n) _ _ (e .args .from .0) (q .q2 .given .0 .0 .0) _ (e .args .p .0) (l .before .read .ensures) (h .0) (h .1)
+    valid-stack-heap (e .args .map) (shadows e) (e .pre .0) (e .pre .1) (e .args .write) (e .args .n) _ _ (e .args .from .0) (q .q2 .given .0 .0 .0) _ (e .args .p .0) (l .before .read .ensures) (h .0) (h .1)
     (c .before .read3 .ensures) (c .apart .ensures)
 
 returns-4 : tie.Need-returns-4
 returns-4 c =
     let l = c .before .before .before in
     let e = entry l in
-    valid-out (e .args .map) (shadows e) (e .pre .0) (e .pre .1) (e .args .n) (e .args .map .«stack_start») _ _ (e .args .from .0) _ (l .before .read .ensures) (outside (c .before)) (c .apart2 .ensures)
+    valid-out (e .args .map) (shadows e) (e .pre .0) (e .pre .1) (e .args .write) (e .args .n) (e .args .map .«stack_start») _ _ (e .args .from .0) _ (l .before .read .ensures) (outside (c .before)) (c .apart2 .ensures)
 
 pub valid-stack-spec : {M : Type 1} → statement M
 valid-stack-spec =

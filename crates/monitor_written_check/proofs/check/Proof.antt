@@ -1,6 +1,6 @@
 -- `monitor_written_check::check` meets its contract: one arm for each area. Assumes nothing.
 use mathlib.Core.Path.{_≡_, refl, sym, ap, _∙_}
-use mathlib.Core.Bool.{true}
+use mathlib.Core.Bool.{true, false}
 use native.Mathlib.Omega.{arith}
 use denote.Ref.{now}
 use Rattle.map.specs.Map.{goodMap}
@@ -108,7 +108,7 @@ returns-3 c =
     let g = good-fit (l .before .before) in
     let h = in-heap p in
     area-found (e .args .map) (shadows e) (e .args .a .0) (e .args .n) _
-    (c .before .refused .ensures ∙ ap (writtenRefusal (e .args .n)) (x .read .ensures) ∙ written-heap (e .args .map) (shadows e) (e .args .a .0) (e .args .n) (g .0) (g .1) (l .before .if2 .left) _ (h .0) (h .1))
+    (c .before .refused .ensures ∙ ap (writtenRefusal false (e .args .n)) (x .read .ensures) ∙ written-heap (e .args .map) (shadows e) (e .args .a .0) (e .args .n) (g .0) (g .1) (l .before .if2 .left) _ (h .0) (h .1))
     (Heap _) h _ (c .in-area .ensures .0) (c .in-area .result .place) (c .in-area .ensures .1) (c .in-area .ensures .2)
 
 returns-4 : tie.Need-returns-4
@@ -120,7 +120,7 @@ returns-4 c =
     let g = good-fit (l .before .before) in
     let h = in-stack p in
     area-found (e .args .map) (shadows e) (e .args .a .0) (e .args .n) _
-    (c .before .refused2 .ensures ∙ ap (writtenRefusal (e .args .n)) (x .read2 .ensures) ∙ written-stack (e .args .map) (shadows e) (e .args .a .0) (e .args .n) (g .0) (g .1) (l .before .if2 .left) _ (h .0) (h .1))
+    (c .before .refused2 .ensures ∙ ap (writtenRefusal true (e .args .n)) (x .read2 .ensures) ∙ written-stack (e .args .map) (shadows e) (e .args .a .0) (e .args .n) (g .0) (g .1) (l .before .if2 .left) _ (h .0) (h .1))
     (Stack _) h _ (c .in-area2 .ensures .0) (c .in-area2 .result .place) (c .in-area2 .ensures .1) (c .in-area2 .ensures .2)
 
 returns-5 : tie.Need-returns-5

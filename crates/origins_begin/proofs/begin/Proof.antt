@@ -51,7 +51,7 @@ returns : tie.Need-returns
 returns c =
     let k = c .before in
     let e = entry k in (
-      record-refused (e .args .map) (shadows e) (cells e) (e .args .counter) (e .args .base .0) (e .args .len) (e .args .written) _ (k .check .ensures .0) (c .if1 .taken),
+      record-refused (e .args .map) (shadows e) (cells e) (e .args .counter) (e .args .how) (e .args .base .0) (e .args .len) _ (k .check .ensures .0) (c .if1 .taken),
       λ z. absurd (c .if1 .taken z),
     )
 
@@ -93,7 +93,7 @@ returns-2 c =
     let k = i .before in
     let e = entry k in
     let f = k .check .ensures .1 (i .if1 .left) in (
-      record-accepted (e .args .map) (shadows e) (cells e) (e .args .counter) (e .args .base .0) (e .args .len) (e .args .written) 0 (sym (i .if1 .left) ∙ k .check .ensures .0)
+      record-accepted (e .args .map) (shadows e) (cells e) (e .args .counter) (e .args .how) (e .args .base .0) (e .args .len) 0 (sym (i .if1 .left) ∙ k .check .ensures .0)
           refl (f .0) (k .check .result .place) (f .1) (f .2) _ (x .stamp .ensures) _ (o .set-origin .ensures),
       λ _. f .4,
     )

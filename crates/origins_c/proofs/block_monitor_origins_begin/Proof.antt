@@ -7,6 +7,9 @@ use Rattle.origins_c.proofs.block_monitor_origins_begin.Tie as tie
 map-of-requires : tie.Need-map-of-requires
 map-of-requires c κs = search needs
 
+beginning-requires : tie.Need-beginning-requires
+beginning-requires c κs = search needs
+
 begin-requires : tie.Need-begin-requires
 begin-requires c κs = search needs
 
@@ -29,13 +32,18 @@ same-length-5 : tie.Need-same-length-5
 same-length-5 c = search needs
 
 returns : tie.Need-returns
-returns c = carried _ _ _ (c .counted .last .1 .1 .0) _ _ _ _ _ _ _ _ _ (c .counted .ensures) (c .before .before .before .before .before .before .before .before .before .before .before .before .before .begin .ensures) (c .before .before .before .before .before .before .before .before .before .before .before .before .before .before .before .before .before .before .before .before .map-of .ensures)
+returns c =
+    let x = c .before .before .before .before .before .before .before .before .before .before .before .before .before in
+    let h = x .before in
+    rw (← h .beginning .ensures)
+    (carried _ _ _ (c .counted .last .1 .1 .0) _ _ _ _ _ _ _ _ _ (c .counted .ensures) (x .begin .ensures) (h .before .before .before .before .before .before .before .map-of .ensures))
 
 pub block-monitor-origins-begin-spec : {M : Type 1} → statement M
 block-monitor-origins-begin-spec =
     tie.close
     (tie.spec
     map-of-requires
+    beginning-requires
     begin-requires
     counted-requires
     same-length

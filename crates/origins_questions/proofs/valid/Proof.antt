@@ -35,7 +35,7 @@ unfolding cellsFit
 returns c k =
     let f = c .before .before .before in
     let e = entry f in
-    told-unfit (e .args .map) (plain (valid (e .args .a .0) (e .args .n) (e .args .from .0))) (stateOf (shadows e) (cells e) k)
+    told-unfit (e .args .map) (plain (valid (e .args .write) (e .args .a .0) (e .args .n) (e .args .from .0))) (stateOf (shadows e) (cells e) k)
     (sym (f .cells-fit .ensures) ∙ not-true (f .cells-fit .result) (c .before .before .if1 .taken)) _ (c .before .unfit .ensures) _ (c .refusal .ensures)
 
 valid-requires : tie.Need-valid-requires
@@ -46,7 +46,7 @@ unfolding cellsFit
 returns-2 c k =
     let f = c .before .before in
     let e = entry f in
-    told-plain (e .args .map) (shadows e) (cells e) k (sym (f .cells-fit .ensures) ∙ not-false (f .cells-fit .result) (c .before .if1 .left)) (valid (e .args .a .0) (e .args .n) (e .args .from .0))
+    told-plain (e .args .map) (shadows e) (cells e) k (sym (f .cells-fit .ensures) ∙ not-false (f .cells-fit .result) (c .before .if1 .left)) (valid (e .args .write) (e .args .a .0) (e .args .n) (e .args .from .0))
     refl refl _ _ (c .valid .ensures)
 
 pub valid-spec : {M : Type 1} → statement M

@@ -39,7 +39,7 @@ unfolding cellsFit
 returns c =
     let f = c .before .before in
     let e = entry f in
-    let u = record-unfit (e .args .map) (shadows e) (cells e) (e .args .counter) (e .args .base .0) (e .args .len)
+    let u = record-unfit (e .args .map) (shadows e) (cells e) (e .args .counter) (e .args .how) (e .args .base .0) (e .args .len)
     (sym (f .cells-fit .ensures) ∙ not-true (f .cells-fit .result) (c .before .if1 .taken)) _ (c .unfit .ensures) in
     (u .0, λ z. absurd (u .1 z))
 
@@ -52,9 +52,9 @@ returns-2 c =
     let k = i .before .before in
     let e = entry (i .before) in
     let j = k .check .result .number in (
-      c .decided .ensures ∙ record-number (e .args .map) (shadows e) (cells e) (e .args .counter) (e .args .base .0) (e .args .len) (fits i) j (k .check .ensures .0),
+      c .decided .ensures ∙ record-number (e .args .map) (shadows e) (cells e) (e .args .counter) (e .args .how) (e .args .base .0) (e .args .len) (fits i) j (k .check .ensures .0),
       λ z.
-          let r = record-ready (e .args .map) (shadows e) (cells e) (e .args .counter) (e .args .base .0) (e .args .len) (fits i) j (k .check .ensures .0) (sym (c .decided .ensures) ∙ z) in
+          let r = record-ready (e .args .map) (shadows e) (cells e) (e .args .counter) (e .args .how) (e .args .base .0) (e .args .len) (fits i) j (k .check .ensures .0) (sym (c .decided .ensures) ∙ z) in
           let p = k .check .ensures .1 (r .0) in
           (sym (k .check .ensures .0) ∙ r .0, p .0, p .1, r .2 (k .check .result .place) (p .0) (p .1), r .1),
     )

@@ -12,23 +12,17 @@ clear-requires c κs = search needs
 enum-known-update : tie.Need-enum-known-update
 enum-known-update c = search needs
 
-record-requires : tie.Need-record-requires
-record-requires c κs = search needs
+begin-requires : tie.Need-begin-requires
+begin-requires c κs = search needs
 
 enum-known-update-2 : tie.Need-enum-known-update-2
 enum-known-update-2 c = search needs
 
-record-written-requires : tie.Need-record-written-requires
-record-written-requires c κs = search needs
-
-enum-known-update-3 : tie.Need-enum-known-update-3
-enum-known-update-3 c = search needs
-
 free-requires : tie.Need-free-requires
 free-requires c κs = search needs
 
-enum-known-update-4 : tie.Need-enum-known-update-4
-enum-known-update-4 c = search needs
+enum-known-update-3 : tie.Need-enum-known-update-3
+enum-known-update-3 c = search needs
 
 written-requires : tie.Need-written-requires
 written-requires c κs = search needs
@@ -71,7 +65,7 @@ same-length-10 c = search needs
 returns-2 : tie.Need-returns-2
 returns-2 c =
     let x = c .before .before .before .before .before .before .before .before .before .before in
-    rw (x .before .before .before .before .before .before .before .update .given .1) (x .«record» .ensures)
+    rw (x .before .before .before .before .before .before .before .update .given .1) (x .begin .ensures)
 
 same-length-11 : tie.Need-same-length-11
 same-length-11 c = search needs
@@ -91,7 +85,7 @@ same-length-15 c = search needs
 returns-3 : tie.Need-returns-3
 returns-3 c =
     let x = c .before .before .before .before .before .before .before .before .before .before in
-    rw (x .before .before .before .before .before .before .before .update2 .given .1) (x .record-written .ensures)
+    rw (x .before .before .before .before .before .before .before .update2 .given .1) (x .free .ensures)
 
 same-length-16 : tie.Need-same-length-16
 same-length-16 c = search needs
@@ -111,27 +105,7 @@ same-length-20 c = search needs
 returns-4 : tie.Need-returns-4
 returns-4 c =
     let x = c .before .before .before .before .before .before .before .before .before .before in
-    rw (x .before .before .before .before .before .before .before .update3 .given .1) (x .free .ensures)
-
-same-length-21 : tie.Need-same-length-21
-same-length-21 c = search needs
-
-same-length-22 : tie.Need-same-length-22
-same-length-22 c = search needs
-
-same-length-23 : tie.Need-same-length-23
-same-length-23 c = search needs
-
-same-length-24 : tie.Need-same-length-24
-same-length-24 c = search needs
-
-same-length-25 : tie.Need-same-length-25
-same-length-25 c = search needs
-
-returns-5 : tie.Need-returns-5
-returns-5 c =
-    let x = c .before .before .before .before .before .before .before .before .before .before in
-    rw (x .before .before .before .before .before .before .before .update4 .given .1) (x .written .ensures)
+    rw (x .before .before .before .before .before .before .before .update3 .given .1) (x .written .ensures)
 
 pub update-step-spec : {M : Type 1} → statement M
 update-step-spec =
@@ -140,12 +114,10 @@ update-step-spec =
     enum-told
     clear-requires
     enum-known-update
-    record-requires
+    begin-requires
     enum-known-update-2
-    record-written-requires
-    enum-known-update-3
     free-requires
-    enum-known-update-4
+    enum-known-update-3
     written-requires
     same-length
     same-length-2
@@ -170,10 +142,4 @@ update-step-spec =
     same-length-18
     same-length-19
     same-length-20
-    returns-4
-    same-length-21
-    same-length-22
-    same-length-23
-    same-length-24
-    same-length-25
-    returns-5)
+    returns-4)

@@ -22,7 +22,7 @@ abbrev μ-loop : tie.MeasureT-loop
 
 loop-holds : tie.Need-loop-holds Inv-loop μ-loop
 loop-holds c = (
-  record { within = omega arith; offset = omega arith; few = omega arith; lives = omega arith; marks = omega arith },
+  record { within = omega arith; begun = omega arith; offset = omega arith; few = omega arith; lives = omega arith; marks = omega arith },
   rest-start (now (c .before .before .args .primary)) (now (c .before .before .args .secondary)),
 )
 

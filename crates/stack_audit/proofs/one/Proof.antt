@@ -18,17 +18,17 @@ shared-slice-read-stands c = search needs
 stands-requires : tie.Need-stands-requires
 stands-requires c κs =
     let s = c .before .before .before .before in
-    in-block (now (s .args .primary)) (now (s .args .secondary)) (s .args .q .0) (s .args .w) (s .pre .0) (s .args .k) (s .pre .1)
+    in-block (now (s .args .primary)) (now (s .args .secondary)) (s .args .q .0) (s .args .w) (s .pre .0) (s .args .k) (s .args .literal) (s .pre .1) (s .pre .2)
 
 returns : tie.Need-returns
 returns c =
     let s = c .before .before .before .before .before .before in
-    turned-bad (now (s .args .primary)) (now (s .args .secondary)) (s .args .q .0) (s .args .w) (s .pre .0) (s .args .k) (s .pre .1) _ (c .before .stands .ensures) (not-true _ (c .if1 .taken))
+    turned-bad (now (s .args .primary)) (now (s .args .secondary)) (s .args .q .0) (s .args .w) (s .pre .0) (s .args .k) (s .args .literal) (s .pre .1) (s .pre .2) _ (c .before .stands .ensures) (not-true _ (c .if1 .taken))
 
 after-requires : tie.Need-after-requires
 after-requires c κs =
     let s = c .before .before .before .before .before .before in (
-      in-block (now (s .args .primary)) (now (s .args .secondary)) (s .args .q .0) (s .args .w) (s .pre .0) (s .args .k) (s .pre .1),
+      in-block (now (s .args .primary)) (now (s .args .secondary)) (s .args .q .0) (s .args .w) (s .pre .0) (s .args .k) (s .args .literal) (s .pre .1) (s .pre .2),
       omega arith,
       omega arith,
       omega arith,
@@ -39,7 +39,7 @@ returns-2 : tie.Need-returns-2
 returns-2 c =
     let s = c .before .before .before .before .before .before .before in
     let x = at (now (s .args .primary)) (s .args .q .0) in
-    turned-one (now (s .args .primary)) (now (s .args .secondary)) (s .args .q .0) (s .args .w) (s .pre .0) (s .args .k) (s .pre .1) _ (c .before .before .stands .ensures) (not-false _ (c .before .if1 .left))
+    turned-one (now (s .args .primary)) (now (s .args .secondary)) (s .args .q .0) (s .args .w) (s .pre .0) (s .args .k) (s .args .literal) (s .pre .1) (s .pre .2) _ (c .before .before .stands .ensures) (not-false _ (c .before .if1 .left))
     (bitAnd x 1) (c .after .result) (and-mask x 1) (c .after .ensures)
 
 pub one-spec : {M : Type 1} → statement M

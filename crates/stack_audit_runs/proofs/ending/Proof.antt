@@ -20,11 +20,11 @@ last-requires c κs = search needs
 -- what the two words have shown
 shown : (c : tie.After-last)
     → let a = c .before .before .before .before .before .args in
-    c .last .result ≡ endRun (now (a .primary)) (now (a .secondary)) (a .q .0) (a .len) (a .i)
+    c .last .result ≡ endRun (now (a .primary)) (now (a .secondary)) (a .q .0) (a .len) (a .i) (a .literal)
 shown c =
     let s = c .before .before .before .before .before in
     let a = s .args in
-    end-seen (now (a .primary)) (now (a .secondary)) (a .q .0) (a .len) (a .i) _ _
+    end-seen (now (a .primary)) (now (a .secondary)) (a .q .0) (a .len) (a .i) (a .literal) _ _
     (λ q. c .before .before .before .before .shared-slice-known .given q .fits) (λ q. c .before .before .before .shared-slice-known2 .given q .fits)
     (c .before .before .eight-at .ensures) (c .before .eight-at2 .ensures) (c .last .result) (s .pre .1) (left-few (a .len) (a .i) (s .pre .4)) (c .last .ensures .0)
 
@@ -34,8 +34,8 @@ returns c =
     let a = c .before .before .before .before .before .before .args in
     run-is (now (a .primary)) (a .q .0) 0 0 _ (sym (c .if1 .taken) ∙ shown (c .before)) refl
 
-cast-t11 : tie.Need-cast-t11
-cast-t11 c = search needs
+cast-t12 : tie.Need-cast-t12
+cast-t12 c = search needs
 
 odds-requires : tie.Need-odds-requires
 odds-requires c κs = search needs
@@ -44,7 +44,7 @@ returns-2 : tie.Need-returns-2
 returns-2 c =
     let a = c .before .before .before .before .before .before .before .args in
     run-is (now (a .primary)) (a .q .0) _ _ _ (shown (c .before .before))
-    (c .odds .ensures .0 ∙ end-odds (now (a .primary)) (now (a .secondary)) (a .q .0) (a .len) (a .i) _ _
+    (c .odds .ensures .0 ∙ end-odds (now (a .primary)) (now (a .secondary)) (a .q .0) (a .len) (a .i) (a .literal) _ _
     (λ q. c .before .before .before .before .before .before .shared-slice-known .given q .fits) (λ q. c .before .before .before .before .before .shared-slice-known2 .given q .fits)
     (c .before .before .before .before .eight-at .ensures) (c .before .before .before .eight-at2 .ensures) _ (c .before .before .last .ensures .1))
 
@@ -56,6 +56,6 @@ ending-spec =
     eight-at-requires-2
     last-requires
     returns
-    cast-t11
+    cast-t12
     odds-requires
     returns-2)

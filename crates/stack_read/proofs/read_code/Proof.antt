@@ -10,13 +10,13 @@ returns : tie.Need-returns
 unfolding codeReading
 returns c =
     let s = c .before .before .before .args in
-    rw (eq-eqb (s .code) 0 (omega arith), eq-eqb (s .written) 0 (omega arith))
+    rw (eq-eqb (s .code) 0 (omega arith), eq-eqb (s .bits) 0 (omega arith))
 
 returns-2 : tie.Need-returns-2
 unfolding codeReading
 returns-2 c =
     let s = c .before .before .before .args in
-    rw (eq-eqb (s .code) 0 (omega arith), ne-eqb (s .written) 0 (λ e. omega arith))
+    rw (eq-eqb (s .code) 0 (omega arith), ne-eqb (s .bits) 0 (λ e. omega arith))
 
 short-length-requires : tie.Need-short-length-requires
 short-length-requires c κs = search needs

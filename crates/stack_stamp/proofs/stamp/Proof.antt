@@ -6,8 +6,8 @@ use Rattle.stack_laws.proofs.StampLaws.{vacant-secondary, stamped}
 use Rattle.stack_stamp.proofs.stamp.Statement.{statement}
 use Rattle.stack_stamp.proofs.stamp.Tie as tie
 
-first-mark-requires : tie.Need-first-mark-requires
-first-mark-requires c κs = search needs
+first-bits-requires : tie.Need-first-bits-requires
+first-bits-requires c κs = search needs
 
 stamp-primary-requires : tie.Need-stamp-primary-requires
 stamp-primary-requires c κs = search needs
@@ -26,10 +26,10 @@ same-length-2 c = search needs
 returns : tie.Need-returns
 returns c =
     let s = c .before .before .before .before .before .before .before .before .before .before .before .args in
-    stamped (s .written) (now (s .primary)) (now (s .secondary)) _ _ (s .base .0) (s .len) _ (c .before .before .before .before .before .before .before .first-mark .ensures .0)
+    stamped (s .how) (now (s .primary)) (now (s .secondary)) _ _ (s .base .0) (s .len) _ (c .before .before .before .before .before .before .before .first-bits .ensures .0)
     (c .before .before .before .before .before .before .stamp-primary .ensures) (c .before .before .stamp-secondary .ensures)
 
 pub stamp-spec : {M : Type 1} → statement M
 stamp-spec =
     tie.close
-    (tie.spec first-mark-requires stamp-primary-requires stamp-secondary-requires same-length same-length-2 returns)
+    (tie.spec first-bits-requires stamp-primary-requires stamp-secondary-requires same-length same-length-2 returns)

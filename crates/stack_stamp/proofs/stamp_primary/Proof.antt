@@ -14,11 +14,11 @@ use Rattle.stack_stamp.proofs.stamp_primary.Statement.{statement}
 use Rattle.stack_stamp.proofs.stamp_primary.Tie as tie
 
 abbrev Inv-loop : tie.InvT-loop
-Inv-loop primary₀ len mark b o₀ primary o =
-    (o % 8 ≡ 0) × (o + 8 ≤ len) × (length primary ≡ length primary₀) × (primary ≡ over b o (λ q. primaryOf len (q - b) mark) primary₀)
+Inv-loop primary₀ len bits b o₀ primary o =
+    (o % 8 ≡ 0) × (o + 8 ≤ len) × (length primary ≡ length primary₀) × (primary ≡ over b o (λ q. primaryOf len (q - b) bits) primary₀)
 
 abbrev μ-loop : tie.MeasureT-loop
-μ-loop primary₀ len mark b o₀ primary o = len - o
+μ-loop primary₀ len bits b o₀ primary o = len - o
 
 codes-below-requires : tie.Need-codes-below-requires Inv-loop μ-loop
 codes-below-requires c κs = search needs
@@ -44,7 +44,7 @@ same-length c = search needs
 returns : tie.Need-returns Inv-loop μ-loop
 returns c =
     let s = c .before .before .before .before .before .before .before in
-    short-primary (s .args .base .0) (s .args .len) _ (s .args .mark) (omega arith) (c .before .before .before .before .codes-below .ensures .0) (now (s .args .primary)) _
+    short-primary (s .args .base .0) (s .args .len) _ (s .args .bits) (omega arith) (c .before .before .before .before .codes-below .ensures .0) (now (s .args .primary)) _
     (c .before .before .climb-at .ensures)
 
 loop-holds : tie.Need-loop-holds Inv-loop μ-loop
@@ -79,7 +79,7 @@ loop-again c =
       omega arith,
       omega arith,
       run .kept .0 ∙ l .inv .2,
-      next-primary (s .base .0) (s .len) (l .o) 8 (omega arith) (l .inv .0) (omega arith) (inl refl) (omega arith) (s .mark) (now (s .primary)) _ _ (l .inv .3) (run .ensures),
+      next-primary (s .base .0) (s .len) (l .o) 8 (omega arith) (l .inv .0) (omega arith) (inl refl) (omega arith) (s .bits) (now (s .primary)) _ _ (l .inv .3) (run .ensures),
     )
 
 cast-last : tie.Need-cast-last Inv-loop μ-loop
@@ -110,7 +110,7 @@ returns-2 c =
     let n = s .len - l .o in
     let e : l .o + n ≡ s .len = omega arith in
     let last : s .len < l .o + 16 = omega arith in
-    rw e at (next-primary (s .base .0) (s .len) (l .o) n (omega arith) (l .inv .0) (omega arith) (inr last) (omega arith) (s .mark) (now (s .primary)) _ _ (l .inv .3) (c .before .before .climb-at3 .ensures))
+    rw e at (next-primary (s .base .0) (s .len) (l .o) n (omega arith) (l .inv .0) (omega arith) (inr last) (omega arith) (s .bits) (now (s .primary)) _ _ (l .inv .3) (c .before .before .climb-at3 .ensures))
 
 pub stamp-primary-spec : {M : Type 1} → statement M
 stamp-primary-spec =

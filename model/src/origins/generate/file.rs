@@ -9,9 +9,6 @@ use crate::origins::list::OriginsList;
 use crate::program::{encode, encode_map};
 use crate::random::Random;
 
-/// The last kind of this form.
-const LAST_KIND: u16 = 13;
-
 /// An input file with at most so many records before its end.
 pub fn file(random: &mut Random, records: u64) -> Vec<u8> {
     let mut input = Vec::new();
@@ -29,7 +26,7 @@ pub fn file(random: &mut Random, records: u64) -> Vec<u8> {
             input.extend(call_record(random, &mut calls, &mut list));
         }
     }
-    spoil(random, &mut input, LAST_KIND);
+    spoil(random, &mut input);
     input
 }
 

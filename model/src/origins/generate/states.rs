@@ -1,6 +1,6 @@
 //! Shadows, cells and counters that no run of calls need have left.
 
-use crate::generate::shadows;
+use crate::generate::{inside, shadows};
 use crate::image::image;
 use crate::map::Map;
 use crate::origins::call::OriginsCall;
@@ -51,15 +51,21 @@ pub fn noise(random: &mut Random, map: Map) -> (State, OriginsCall) {
     let mut state = State::cleared(map);
     state.shadows = shadows::noise(random, map);
     any_cells(random, map, &mut state);
-    (state, Calls::default().next(random, map, &[]))
+    let blocks = shadows::read_blocks(map, &state.shadows);
+    (state, Calls::default().next(random, map, &blocks))
 }
 
-/// Any of these.
+/// Any of these, at times with a plain call inside some block.
 pub fn any(random: &mut Random, map: Map) -> (State, OriginsCall) {
-    match random.below(6) {
+    let (state, call) = match random.below(6) {
         0 => noise(random, map),
         1 | 2 => unaligned(random, map),
         _ => damaged(random, map),
+    };
+    let blocks = shadows::read_blocks(map, &state.shadows);
+    match blocks.is_empty() || !random.once_in(5) {
+        true => (state, call),
+        false => (state, OriginsCall::Plain(inside(random, &blocks))),
     }
 }
 
