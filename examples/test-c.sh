@@ -1,7 +1,7 @@
 #!/usr/bin/env bash
 # Tests what a C program meets, in the plain form and in the form with origins: the headers against the exported functions, the examples of
-# docs/C-INTERFACE.md, and the lesson, clean and with each of its mistakes, against stored output. Needs both libraries (./build-c.sh). Ends
-# with 1 at the first difference. CC and CXX name other compilers than cc and c++.
+# docs/C-INTERFACE.md, and the lesson, clean and with each of its mistakes, in the plain form with either allocator, against stored output.
+# Needs both libraries (./build-c.sh). Ends with 1 at the first difference. CC and CXX name other compilers than cc and c++.
 set -euo pipefail
 cd "$(dirname "$0")/.."
 
@@ -86,6 +86,9 @@ int main()
         return 1;
     if (readable != 1 || monitor_clear(&monitor) != BLOCK_MONITOR_ACCEPTED)
         return 1;
+    struct block_monitor_room room;
+    if (monitor_place(&monitor, 8, 1, &room) != BLOCK_MONITOR_ACCEPTED || room.base != 16 || room.gaps != 1 || room.surplus != 0)
+        return 1;
     struct block_monitor_origins origins = {{8, 16, 24, 16}, heap, 16, primary, 16, secondary, 16, heap_cells, 32, stack_cells, 32, 1};
     if (monitor_origins_record(&origins, 16, 4) != BLOCK_MONITOR_ACCEPTED || origins.counter != 2)
         return 1;
@@ -97,17 +100,18 @@ END
     pass
 }
 
-# The code blocks of the page as one program for each form, whose section parts them: the first at file level, the others in main. Errors name
-# the page's own lines.
+# The code blocks of the page as one program for each form, whose section parts them: the first, and those with a function, at file level, the
+# others in main. Errors name the page's own lines.
 page_program() {
     awk -v form="$1" '
         BEGIN { here = "plain" }
         /^## The form with origins$/ { here = "origins" }
         here != form { next }
-        /^```c$/ { inside = 1; blocks++; if (blocks == 2) print "int main(void)\n{"; print "#line " NR + 1 " \"docs/C-INTERFACE.md\""; next }
-        /^```$/ { inside = 0 }
-        inside
-        END { print "return 0;\n}" }' docs/C-INTERFACE.md
+        /^```c$/ { inside = 1; outer = outside == ""; code = "#line " NR + 1 " \"docs/C-INTERFACE.md\"\n"; next }
+        /^```$/ && inside { inside = 0; if (outer) outside = outside code; else body = body code }
+        inside && $0 == "{" { outer = 1 }
+        inside { code = code $0 "\n" }
+        END { printf "%sint main(void)\n{\n%sreturn 0;\n}\n", outside, body }' docs/C-INTERFACE.md
 }
 
 # Each program is linked with both libraries: that of the form with origins uses both.
@@ -123,29 +127,33 @@ test_page() {
     pass
 }
 
-# lesson FORM MISTAKE EXPECTED STATUS FLAG..: builds the lesson, runs it, compares output and exit status.
+# lesson FORM ALLOCATOR MISTAKE EXPECTED STATUS FLAG..: builds the lesson, runs it, compares output and exit status.
 lesson() {
-    local form=$1 mistake=$2 expected=examples/lesson/$3 status=$4 got=0
-    shift 4
+    local form=$1 allocator=$2 mistake=$3 expected=examples/lesson/$4 status=$5 got=0
+    shift 5
     if [ "$form" = origins ]; then set -- -DORIGINS "$@"; fi
-    (cd examples/lesson && "$cc" -std=c99 "${strict[@]}" "$@" -DMISTAKE="$mistake" -I"$include" lesson.c checks.c areas.c "$(library "$form")" -o "$out/lesson") ||
-        fail "the lesson with mistake $mistake does not compile ($*)"
+    (cd examples/lesson && "$cc" -std=c99 "${strict[@]}" "$@" -DMISTAKE="$mistake" -I"$include" lesson.c checks.c areas.c "$allocator" "$(library "$form")" -o "$out/lesson") ||
+        fail "the lesson with mistake $mistake and $allocator does not compile ($*)"
     "$out/lesson" >"$out/lesson.out" || got=$?
-    same "$expected" "$out/lesson.out" "$expected ($*)"
-    [ "$got" -eq "$status" ] || fail "$expected ($*): exit status $got, expected $status"
+    same "$expected" "$out/lesson.out" "$expected ($allocator $*)"
+    [ "$got" -eq "$status" ] || fail "$expected ($allocator $*): exit status $got, expected $status"
 }
 
-# All mistakes but the eighth are found in both forms; the plain form takes that for good, and the lesson runs to its end.
+# All mistakes but the eighth are found in both forms; the plain form takes that for good, and the lesson runs to its end. placed.c is for that
+# form alone, and puts each block where first_fit.c does: whenever one is asked for, what is free is one gap.
 test_lesson() {
-    local form n
-    for form in "${forms[@]}"; do
-        lesson "$form" 0 lesson.expected 0 "$@"
+    local built form allocator n
+    for built in "plain first_fit.c" "plain placed.c" "origins first_fit.c"; do
+        read -r form allocator <<<"$built"
+        lesson "$form" "$allocator" 0 lesson.expected 0 "$@"
         for n in 1 2 3 4 5 6 7 9; do
-            lesson "$form" $n mistake-$n.expected 1 "$@"
+            lesson "$form" "$allocator" $n mistake-$n.expected 1 "$@"
         done
+        case $form in
+        plain) lesson plain "$allocator" 8 mistake-8-plain.expected 0 "$@" ;;
+        origins) lesson origins "$allocator" 8 mistake-8.expected 1 "$@" ;;
+        esac
     done
-    lesson plain 8 mistake-8-plain.expected 0 "$@"
-    lesson origins 8 mistake-8.expected 1 "$@"
 }
 
 command -v "$cc" >/dev/null || fail "no C compiler ($cc)"

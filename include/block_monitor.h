@@ -31,8 +31,8 @@ extern "C" {
 /*
  * What a call returns: accepted, or why it is refused. A refused call stores zero in every field and alters no shadow byte. The lowest number
  * that holds is returned, but 8 comes before 7. Where a number is said to be record's, it is that of record_written and record_literal as well,
- * but that a heap base is 4 of the last. 11 and 12 are of the form with origins alone. Later numbers may be added: take any that is not 0 for a
- * refusal.
+ * but that a heap base is 4 of the last. 11 and 12 are of the form with origins alone, 14 of the plain form alone. Later numbers may be added:
+ * take any that is not 0 for a refusal.
  */
 enum block_monitor_number {
     BLOCK_MONITOR_ACCEPTED = 0,
@@ -46,7 +46,8 @@ enum block_monitor_number {
     BLOCK_MONITOR_DAMAGED = 8,       /* a shadow was overwritten: what is met there is no block's state; audit: no list's image */
     BLOCK_MONITOR_NO_POINTER = 11,   /* point, copy, live: no cell there: no multiple of 4, or its four bytes are not in one block */
     BLOCK_MONITOR_NO_ORIGIN = 12,    /* record: the counter is no origin, 1 to 4,294,967,295 */
-    BLOCK_MONITOR_LITERAL = 13       /* written: the block is a literal, which may only be read */
+    BLOCK_MONITOR_LITERAL = 13,      /* written: the block is a literal, which may only be read */
+    BLOCK_MONITOR_NO_GAP = 14        /* place: no gap that was looked at holds header and block */
 };
 
 /* How a block begins. */
@@ -107,6 +108,14 @@ uint32_t block_monitor_next(const uint32_t map[4], const uint8_t *heap, size_t h
 /* The whole of the shadows is looked through. Fields: heap blocks, stack blocks, live bytes, written bytes. */
 uint32_t block_monitor_audit(const uint32_t map[4], const uint8_t *heap, size_t heap_length, const uint8_t *primary, size_t primary_length,
                              const uint8_t *secondary, size_t secondary_length, uint32_t fields[4]);
+
+/*
+ * Where a heap block of this length may begin: in the smallest gap that holds it with its header, the lowest among equals, of as many gaps as
+ * the budget says, or of all. A gap is a longest run of heap shadow segments whose bytes are all zero. It only looks: record comes next.
+ * Fields: base, gaps looked at, surplus (the gap's bytes less the header and the block's whole segments).
+ */
+uint32_t block_monitor_place(const uint32_t map[4], const uint8_t *heap, size_t heap_length, const uint8_t *primary, size_t primary_length,
+                             const uint8_t *secondary, size_t secondary_length, uint32_t length, uint32_t budget, uint32_t fields[4]);
 
 /* The ways to record, and the two questions of a range, each by its name. */
 static inline uint32_t block_monitor_record(const uint32_t map[4], uint8_t *heap, size_t heap_length, uint8_t *primary, size_t primary_length,
@@ -179,6 +188,12 @@ struct block_monitor_totals {
     uint32_t stack_blocks;
     uint32_t live_bytes;
     uint32_t written_bytes;
+};
+
+struct block_monitor_room {
+    uint32_t base;    /* where the block may be recorded */
+    uint32_t gaps;    /* looked at: the budget, or all where there are fewer */
+    uint32_t surplus; /* bytes of the chosen gap less the header and the block's whole segments: a larger budget can gain no more than these */
 };
 
 /* The arguments that all calls begin with, of a pointer to a block_monitor. */
@@ -281,6 +296,17 @@ static inline uint32_t monitor_audit(const struct block_monitor *monitor, struct
     return number;
 }
 
+/* Nothing is taken yet: until record tells of the block, the next monitor_place may answer the same base. */
+static inline uint32_t monitor_place(const struct block_monitor *monitor, uint32_t length, uint32_t budget, struct block_monitor_room *room)
+{
+    uint32_t fields[4];
+    uint32_t number = block_monitor_place(BLOCK_MONITOR_LENT(monitor), length, budget, fields);
+    room->base = fields[0];
+    room->gaps = fields[1];
+    room->surplus = fields[2];
+    return number;
+}
+
 /* A number in words, for messages. */
 static inline const char *monitor_words(uint32_t number)
 {
@@ -297,6 +323,7 @@ static inline const char *monitor_words(uint32_t number)
     case BLOCK_MONITOR_NO_POINTER: return "no pointer can stand there";
     case BLOCK_MONITOR_NO_ORIGIN: return "the origins are used up";
     case BLOCK_MONITOR_LITERAL: return "a literal may only be read";
+    case BLOCK_MONITOR_NO_GAP: return "no gap fits";
     default: return "an unknown number";
     }
 }

@@ -1,9 +1,9 @@
 /*
  * The block monitor in the form with origins, for C99 and C++.
  *
- * It does what the plain form does (block_monitor.h), and knows besides when a pointer outlives its block and a later block has taken the place.
- * Each allocation gets a number of its own, its origin. The program tells where it keeps a pointer, in four bytes of its own memory, and when
- * that pointer is set or copied; before it is used, live tells whether the very allocation that it was set to is still there.
+ * It does what the plain form does (block_monitor.h), but for place, and knows besides when a pointer outlives its block and a later block has
+ * taken the place. Each allocation gets a number of its own, its origin. The program tells where it keeps a pointer, in four bytes of its own
+ * memory, and when that pointer is set or copied; before it is used, live tells whether the very allocation that it was set to is still there.
  *
  * Link with target/staticlib/liborigins_c.a (./build-c.sh makes it); a program may link both libraries. docs/C-INTERFACE.md has an example for
  * each call.

@@ -25,6 +25,8 @@ pub enum Group {
     Placing,
     Whole,
     Replay,
+    /// Places chosen for blocks.
+    Gaps,
     /// The calls that only the form with origins has.
     Pointer,
 }
@@ -54,9 +56,14 @@ impl Case {
         }
     }
 
-    /// E-ACSL has no search, no audit and no clearing, and its literals are not on the stack.
+    /// E-ACSL has no search, no audit, no clearing and no choice of places, and its literals are not on the stack.
     pub fn known_to_eacsl(&self) -> bool {
-        let whole = |call: &Call| matches!(call, Call::Next { .. } | Call::Audit | Call::Clear);
+        let whole = |call: &Call| {
+            matches!(
+                call,
+                Call::Next { .. } | Call::Audit | Call::Clear | Call::Place { .. }
+            )
+        };
         let literal = |call: &Call| matches!(call, Call::RecordLiteral { .. });
         !self.timed.iter().any(|call| whole(call) || literal(call))
     }

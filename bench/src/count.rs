@@ -14,6 +14,7 @@ pub type Counts = Vec<Vec<Option<f64>>>;
 /// The words on which this program makes one pass of a plan and ends.
 pub const ONE_PASS: &str = "one-pass";
 pub const ONE_PASS_OF_FORMS: &str = "one-pass-of-forms";
+pub const ONE_PASS_OF_GAPS: &str = "one-pass-of-gaps";
 
 pub fn valgrind_there() -> bool {
     let asked = Command::new("valgrind")

@@ -67,13 +67,14 @@ fn symbol(call: &Call) -> &'static str {
         Call::Initialised { .. } => "block_monitor_initialised",
         Call::Next { .. } => "block_monitor_next",
         Call::Audit => "block_monitor_audit",
+        Call::Place { .. } => "block_monitor_place",
     }
 }
 
 /// Declares the symbols of a build and makes a side of it, with the symbols that it lacks: in their place stand stubs (before.sh).
 macro_rules! build {
     ($side:ident, $clear:literal, $begin:literal, $free:literal, $written:literal, $ask:literal, $access:literal, $initialised:literal,
-     $next:literal, $audit:literal) => {
+     $next:literal, $audit:literal, $place:literal) => {
         pub mod $side {
             use super::*;
 
@@ -98,6 +99,8 @@ macro_rules! build {
                 fn next(map: *const Four, h: *const u8, hl: usize, p: *const u8, pl: usize, s: *const u8, sl: usize, a: u32, f: *mut Four) -> u32;
                 #[link_name = $audit]
                 fn audit(map: *const Four, h: *const u8, hl: usize, p: *const u8, pl: usize, s: *const u8, sl: usize, f: *mut Four) -> u32;
+                #[link_name = $place]
+                fn place(map: *const Four, h: *const u8, hl: usize, p: *const u8, pl: usize, s: *const u8, sl: usize, n: u32, budget: u32, f: *mut Four) -> u32;
             }
 
             pub struct Library {
@@ -130,6 +133,7 @@ macro_rules! build {
                             Call::Initialised { address, n } => initialised(m, h, hl, p, pl, s, sl, address, n, f),
                             Call::Next { address } => next(m, h, hl, p, pl, s, sl, address, f),
                             Call::Audit => audit(m, h, hl, p, pl, s, sl, f),
+                            Call::Place { length, budget } => place(m, h, hl, p, pl, s, sl, length, budget, f),
                         }
                     };
                     number
@@ -195,7 +199,8 @@ build!(
     "block_monitor_access",
     "block_monitor_initialised",
     "block_monitor_next",
-    "block_monitor_audit"
+    "block_monitor_audit",
+    "block_monitor_place"
 );
 
 #[cfg(before)]
@@ -209,5 +214,6 @@ build!(
     "before_block_monitor_access",
     "before_block_monitor_initialised",
     "before_block_monitor_next",
-    "before_block_monitor_audit"
+    "before_block_monitor_audit",
+    "before_block_monitor_place"
 );

@@ -16,6 +16,8 @@ pub enum Calls {
     Nexts(Vec<u32>),
     Audits(usize),
     Clears(usize),
+    /// A length and a budget.
+    Places(Vec<(u32, u32)>),
     /// A cell and an address.
     Points(Vec<(u32, u32)>),
     /// A cell, and the cell that it is copied from.
@@ -47,6 +49,7 @@ impl Calls {
             Call::Next { .. } => Calls::Nexts(all.map(first).collect()),
             Call::Audit => Calls::Audits(calls.len()),
             Call::Clear => Calls::Clears(calls.len()),
+            Call::Place { .. } => Calls::Places(all.filter_map(length_and_budget).collect()),
         }
     }
 
@@ -114,6 +117,11 @@ impl Calls {
                     maker.one(Call::Clear);
                 }
             }
+            Calls::Places(list) => {
+                for &(length, budget) in list {
+                    maker.one(Call::Place { length, budget });
+                }
+            }
             Calls::Points(list) => {
                 for &(cell, address) in list {
                     maker.pointer(OriginsCall::Point { cell, address });
@@ -155,6 +163,14 @@ pub trait Maker {
     }
 }
 
+/// place has no kind, and so no fields in a calls file.
+fn length_and_budget(call: Call) -> Option<(u32, u32)> {
+    match call {
+        Call::Place { length, budget } => Some((length, budget)),
+        _ => None,
+    }
+}
+
 /// A call's fields in a calls file; clear has none.
 fn field(call: Call, index: usize) -> u32 {
     call.record_fields().map_or(0, |(_, fields)| fields[index])
@@ -188,6 +204,8 @@ impl Weight {
             Call::Next { .. } => fields[1],
             Call::Valid { .. } | Call::ValidRead { .. } => fields[0],
             Call::Initialised { .. } | Call::Audit => fields[0],
+            // All sides that have place know the map's addresses: the base is compared too.
+            Call::Place { .. } => fields[0] + fields[1] + fields[2],
             _ => 0,
         };
         self.0 += (u64::from(number) << 32) + u64::from(told);

@@ -3,6 +3,7 @@
 mod case;
 mod count;
 mod forms;
+mod gaps;
 mod library;
 mod lists;
 mod measure;
@@ -11,6 +12,7 @@ mod origins;
 mod places;
 mod plot;
 mod report;
+mod scan;
 mod server;
 mod side;
 mod state;
@@ -27,7 +29,8 @@ use library::Lent;
 use measure::Effort;
 use memset::Memset;
 use origins::Origins;
-use report::Report;
+use report::{Others, Report};
+use scan::Scan;
 use server::Server;
 use side::{Model, Side};
 
@@ -43,14 +46,19 @@ fn traces() -> Vec<(&'static str, Vec<u8>)> {
         .collect()
 }
 
+/// The library of this build, under a title.
+fn library(title: &'static str) -> Side {
+    Side::Here(Box::new(library::this::Library {
+        title,
+        lent: Lent::new(),
+        lacks: Vec::new(),
+    }))
+}
+
 /// The sides that live in this program; the library is the first.
 fn here() -> Vec<Side> {
     vec![
-        Side::Here(Box::new(library::this::Library {
-            title: "monitor",
-            lent: Lent::new(),
-            lacks: Vec::new(),
-        })),
+        library("monitor"),
         #[cfg(before)]
         Side::Here(Box::new(library::before::Library {
             title: "before",
@@ -67,12 +75,17 @@ fn here() -> Vec<Side> {
 fn forms() -> Vec<Side> {
     vec![
         Side::Here(Box::new(Origins::new())),
-        Side::Here(Box::new(library::this::Library {
-            title: "plain",
-            lent: Lent::new(),
-            lacks: Vec::new(),
-        })),
+        library("plain"),
         Side::Here(Box::new(Memset::new(true))),
+    ]
+}
+
+/// place, beside the same in C.
+fn placers() -> Vec<Side> {
+    vec![
+        library("monitor"),
+        Side::Here(Box::new(Scan::new())),
+        Side::Here(Box::new(Memset::new(false))),
     ]
 }
 
@@ -100,6 +113,7 @@ fn main() {
     match words.first().map(String::as_str) {
         Some(count::ONE_PASS) => return count::one_pass(&case::plan(&traces()), &mut here()),
         Some(count::ONE_PASS_OF_FORMS) => return count::one_pass(&forms::plan(), &mut forms()),
+        Some(count::ONE_PASS_OF_GAPS) => return count::one_pass(&gaps::plan(), &mut placers()),
         _ => {}
     }
     let quick = words.iter().any(|word| word == "--quick");
@@ -108,26 +122,23 @@ fn main() {
         turn: if quick { 1e6 } else { 4e6 },
     };
     let report = run(case::plan(&traces()), &effort);
-    let forms = run_forms(forms::plan(), &effort);
-    print!("{}\n{}", report.text(), forms.form_text());
-    report.write(Path::new(OUT), &forms);
+    let others = Others {
+        forms: run_here(forms::plan(), count::ONE_PASS_OF_FORMS, forms, &effort),
+        gaps: run_here(gaps::plan(), count::ONE_PASS_OF_GAPS, placers, &effort),
+    };
+    print!("{}\n{}", report.text(), others.text());
+    report.write(Path::new(OUT), &others);
     if words.iter().any(|word| word == "--docs") {
-        report.write_docs(Path::new("docs"), &forms);
+        report.write_docs(Path::new("docs"), &others);
     }
 }
 
-fn run_forms(plan: Plan, effort: &Effort) -> Report {
-    let mut sides = forms();
+/// A run whose sides all live in this program; the word makes one pass of it.
+fn run_here(plan: Plan, word: &str, all: fn() -> Vec<Side>, effort: &Effort) -> Report {
+    let mut sides = all();
     let rows = measure::measure(&plan, &mut sides, effort);
-    let counts = count::valgrind_there().then(|| {
-        count::count(
-            &plan,
-            count::ONE_PASS_OF_FORMS,
-            &forms(),
-            &[],
-            Path::new(OUT),
-        )
-    });
+    let counts =
+        count::valgrind_there().then(|| count::count(&plan, word, &all(), &[], Path::new(OUT)));
     Report {
         plan,
         titles: sides.iter().map(Side::title).collect(),
@@ -206,6 +217,15 @@ mod tests {
     fn sides_agree() {
         std::env::set_current_dir("..").expect("the repository's folder");
         each_case(&case::plan(&traces()), here(), same);
+    }
+
+    /// The library, the same in C and both models choose alike.
+    #[test]
+    fn placers_agree() {
+        let mut sides = placers();
+        sides.push(Side::Here(Box::new(Model::<PlainList>::new("list"))));
+        sides.push(Side::Here(Box::new(Model::<PlainTree>::new("tree"))));
+        each_case(&gaps::plan(), sides, same);
     }
 
     /// Both forms record and free alike; each pointer that is asked about is live, each other call of a pointer accepted without an answer.

@@ -106,6 +106,7 @@ fn touched(map: Map, list: &mut PlainTree, call: Call, parts: &mut Vec<Part>) {
             let (_, start) = place(map, address).expect("a search begins in an area");
             add(start, (found - address) as usize);
         }
+        Call::Place { budget, .. } => add(0, passed(map, list, budget)),
         Call::Record { base, length }
         | Call::RecordWritten { base, length }
         | Call::RecordLiteral { base, length } => placed(map, base, length, add),
@@ -140,6 +141,25 @@ fn touched(map: Map, list: &mut PlainTree, call: Call, parts: &mut Vec<Part>) {
     }
 }
 
+/// The bytes of the heap shadow from its start to the segment that ends the last gap of a budget; all, where there are fewer gaps.
+fn passed(map: Map, list: &PlainTree, budget: u32) -> usize {
+    let mut gaps = 0;
+    let mut free = 0;
+    for block in list.listed() {
+        let Some((Area::Heap, start)) = place(map, block.base) else {
+            continue;
+        };
+        if start - 8 > free {
+            gaps += 1;
+            if gaps == budget {
+                return start;
+            }
+        }
+        free = start + block.length.next_multiple_of(8) as usize;
+    }
+    HEAP
+}
+
 fn placed(map: Map, base: u32, length: u32, mut add: impl FnMut(usize, usize)) {
     let length = length as usize;
     match place(map, base) {
@@ -168,7 +188,7 @@ fn cells(map: Map, list: &mut PlainTree, call: Call) -> Option<Part> {
 #[cfg(test)]
 mod tests {
     use super::*;
-    use crate::state::roomy;
+    use crate::state::{apart, empty, roomy};
 
     /// Where a part begins, and its length.
     fn parts(call: Call) -> Vec<(usize, usize)> {
@@ -198,6 +218,18 @@ mod tests {
             n: 2,
         };
         assert_eq!(parts(across), [(87, 9 + 2)]);
+    }
+
+    /// The first of the state's gaps lies behind its first block, the header of the second one ends it; there are 499.
+    #[test]
+    fn gaps() {
+        let state = apart();
+        let second = state.heap_blocks()[1].base - state.map.heap_start;
+        let whole = |budget| passed(state.map, &state.list(), budget);
+        assert_eq!(whole(1), second as usize);
+        assert!(whole(498) < whole(499) && whole(499) < HEAP);
+        assert_eq!(whole(500), HEAP);
+        assert_eq!(passed(empty().map, &empty().list(), 1), HEAP);
     }
 
     /// Two bytes for each byte of whole cells.

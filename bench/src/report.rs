@@ -14,7 +14,27 @@ const PLOT: &str = "benchmarks.svg";
 const BEGIN: &str = "<!-- begin: written by ./bench.sh --docs -->";
 const BEGIN_MARKS: &str = "<!-- begin: marks, written by ./bench.sh --before COMMIT --docs -->";
 const BEGIN_FORMS: &str = "<!-- begin: forms, written by ./bench.sh --docs -->";
+const BEGIN_GAPS: &str = "<!-- begin: gaps, written by ./bench.sh --docs -->";
 const END: &str = "<!-- end -->";
+
+/// The runs beside the main one: the form with origins, and place.
+pub struct Others {
+    pub forms: Report,
+    pub gaps: Report,
+}
+
+impl Others {
+    fn parts(&self) -> [(&'static str, String); 2] {
+        [
+            (BEGIN_FORMS, self.forms.form_text()),
+            (BEGIN_GAPS, self.gaps.gap_text()),
+        ]
+    }
+
+    pub fn text(&self) -> String {
+        self.parts().map(|(_, text)| text).join("\n")
+    }
+}
 
 pub struct Report {
     pub plan: Plan,
@@ -94,33 +114,43 @@ impl Report {
     }
 
     /// The tables of a run that sets the form with origins beside the plain form.
-    pub fn form_text(&self) -> String {
+    fn form_text(&self) -> String {
+        let note = " Beside `point`, `copy` and `live` the plain form's call is `ask`.";
+        self.peer_text("The form with origins", "plain", note)
+    }
+
+    /// The tables of a run that sets place beside the same in C.
+    fn gap_text(&self) -> String {
+        self.peer_text("place", "C", "")
+    }
+
+    fn peer_text(&self, title: &str, peer: &str, note: &str) -> String {
         format!(
-            "### The form with origins: targets\n\n{}\n### The form with origins: time and instructions\n\n{}",
+            "### {title}: targets\n\n{}\n### {title}: time and instructions\n\n{}",
             self.target_table(),
-            self.form_table()
+            self.peer_table(peer, note)
         )
     }
 
-    /// This form beside the plain one and memset.
-    fn form_table(&self) -> String {
+    /// The first side beside one peer and memset.
+    fn peer_table(&self, peer: &str, note: &str) -> String {
         let mut table = format!(
-            "Nanoseconds a call, median of {} rounds; ratios are the median of the rounds' ratios; instructions a call by callgrind, the loop over the calls included. Beside `point`, `copy` and `live` the plain form's call is `ask`.\n\n\
-             | Case | ns | ns plain | of plain | ns memset | of memset | instructions | instructions plain | of plain |\n\
+            "Nanoseconds a call, median of {} rounds; ratios are the median of the rounds' ratios; instructions a call by callgrind, the loop over the calls included.{note}\n\n\
+             | Case | ns | ns {peer} | of {peer} | ns memset | of memset | instructions | instructions {peer} | of {peer} |\n\
              |---|---:|---:|---:|---:|---:|---:|---:|---:|\n",
             self.rounds
         );
         let side = |name: &str| self.titles.iter().position(|&title| title == name);
-        let (plain, memset) = (
-            side("plain").expect("its side"),
+        let (peer, memset) = (
+            side(peer).expect("its side"),
             side("memset").expect("its side"),
         );
         for (index, case) in self.plan.cases.iter().enumerate() {
-            let (own, other) = (self.count(index, 0), self.count(index, plain));
+            let (own, other) = (self.count(index, 0), self.count(index, peer));
             let cells = [
                 self.time(index, 0).map(short),
-                self.time(index, plain).map(short),
-                self.in_peer(index, plain).map(short),
+                self.time(index, peer).map(short),
+                self.in_peer(index, peer).map(short),
                 self.time(index, memset).map(short),
                 self.in_peer(index, memset).map(short),
                 own.map(whole),
@@ -235,34 +265,35 @@ impl Report {
         table
     }
 
-    /// The tables, with those of another run that compares the forms, and the plot into a folder.
-    pub fn write(&self, folder: &Path, forms: &Report) {
-        let text = format!("{}\n{}", self.text(), forms.form_text());
+    /// The tables, with those of the other runs, and the plot into a folder.
+    pub fn write(&self, folder: &Path, others: &Others) {
+        let text = format!("{}\n{}", self.text(), others.text());
         fs::write(folder.join("tables.md"), text).expect("the tables are written");
         fs::write(folder.join(PLOT), plot::plot(self)).expect("the plot is written");
     }
 
     /// A run with an earlier build writes the page's table of marks, any other run all other tables, and the plot beside it.
-    pub fn write_docs(&self, docs: &Path, forms: &Report) {
+    pub fn write_docs(&self, docs: &Path, others: &Others) {
         let page = docs.join(PAGE);
         let old = fs::read_to_string(&page).expect("the page is there");
-        fs::write(&page, self.page(&old, forms)).expect("the page is written");
+        fs::write(&page, self.page(&old, others)).expect("the page is written");
         if self.earlier().is_none() {
             fs::write(docs.join(PLOT), plot::plot(self)).expect("the plot is written");
         }
     }
 
-    fn page(&self, old: &str, forms: &Report) -> String {
+    fn page(&self, old: &str, others: &Others) -> String {
         match self.earlier() {
             Some(earlier) => {
                 let text = format!("{}\n{}", self.versions, self.mark_table(earlier));
                 replaced(old, BEGIN_MARKS, &text)
             }
-            None => replaced(
-                &replaced(old, BEGIN, &self.text()),
-                BEGIN_FORMS,
-                &forms.form_text(),
-            ),
+            None => {
+                let page = replaced(old, BEGIN, &self.text());
+                let put =
+                    |page: String, (begin, text): (&str, String)| replaced(&page, begin, &text);
+                others.parts().into_iter().fold(page, put)
+            }
         }
     }
 }

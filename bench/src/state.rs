@@ -91,6 +91,33 @@ pub fn roomy(aligned: u32) -> State {
     }
 }
 
+/// 500 live blocks in the heap alone, each but the last with a gap behind it.
+pub fn apart() -> State {
+    let mut random = Random::new(53);
+    let mut calls = Vec::new();
+    let mut at = HEAP_START;
+    for _ in 1..BLOCKS {
+        let length = random.between(1, 230);
+        add(&mut calls, at + 8, length);
+        let gap = 8 * random.between(1, 29);
+        at += 8 + length.next_multiple_of(8) + gap;
+    }
+    last(&mut calls, at + 8, HEAP_END);
+    State {
+        title: "apart",
+        map: full_map(),
+        calls,
+    }
+}
+
+pub fn empty() -> State {
+    State {
+        title: "empty",
+        map: full_map(),
+        calls: Vec::new(),
+    }
+}
+
 impl State {
     /// The list of the state's live blocks.
     pub fn list(&self) -> PlainTree {

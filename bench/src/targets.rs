@@ -29,6 +29,17 @@ pub fn targets(index: usize, case: &Case) -> Vec<Target> {
     }
 }
 
+/// The targets of a case of place: the whole heap shadow looked through, with all of its blocks.
+pub fn gap_targets(index: usize, case: &Case) -> Vec<Target> {
+    let whole = case.title.contains("500 blocks") && !case.title.contains("budget");
+    let most = Target {
+        case: index,
+        peer: "memset",
+        most: 6.0,
+    };
+    whole.then_some(most).into_iter().collect()
+}
+
 /// The targets of a case of the form with origins. Beside a call of a pointer the plain form's is `ask`, which looks at one area: a pointer from
 /// one area into the other has no target.
 pub fn form_targets(index: usize, case: &Case) -> Vec<Target> {

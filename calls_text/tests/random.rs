@@ -71,14 +71,13 @@ fn long_file(random: &mut Random, records: u32) -> Vec<u8> {
             continue;
         }
         let made = call(random, list.map(), list.blocks());
-        // Clear has no kind of its own.
-        let made = if made == Call::Clear {
-            Call::Audit
-        } else {
-            made
+        // Clear and place have no kind.
+        let made = match made.record_fields() {
+            Some(_) => made,
+            None => Call::Audit,
         };
         list.step(made);
-        let (kind, fields) = made.record_fields().expect("all but clear have a kind");
+        let (kind, fields) = made.record_fields().expect("audit has a kind");
         input.extend(encode(kind, &fields));
     }
     input

@@ -37,11 +37,18 @@ uint32_t address_of(const void *pointer);
 /* The way back: the byte of either area that has this address; NULL for any other. A pointer that is kept in the areas is such an address. */
 void *pointer_to(uint32_t address);
 
-/* First fit. The base is a multiple of 8, and the 8 bytes before it are no other block's. NULL if there is no room. */
+/*
+ * Room on the heap. A program takes first_fit.c, which keeps a list of its own, or, in the plain form, placed.c, where the monitor chooses. The base
+ * is a multiple of 8, and the 8 bytes before it are no other block's. NULL if there is no room. The monitor is told of the block next, with nothing
+ * between.
+ */
 void *heap_allocate(uint32_t length);
 
-/* As C's free: of NULL it does nothing. */
+/* As C's free: of NULL it does nothing. The monitor is told before it. */
 void heap_release(const void *pointer);
+
+/* The heap's part of areas_start. */
+void heap_start(void);
 
 /* Automatic objects: the next length bytes, from a multiple of 4 on; popping one pops all that came after it. NULL if there is no room. */
 void *stack_push(uint32_t length);

@@ -101,6 +101,18 @@ extern "C" {
         a: u32,
         f: *mut Four,
     ) -> u32;
+    fn block_monitor_place(
+        map: *const Four,
+        h: *const u8,
+        hl: usize,
+        p: *const u8,
+        pl: usize,
+        s: *const u8,
+        sl: usize,
+        length: u32,
+        budget: u32,
+        f: *mut Four,
+    ) -> u32;
     fn block_monitor_audit(
         map: *const Four,
         h: *const u8,
@@ -166,6 +178,9 @@ pub fn call(
                 block_monitor_initialised(m, h, hl, p, pl, s, sl, address, n, f)
             }
             Call::Next { address } => block_monitor_next(m, h, hl, p, pl, s, sl, address, f),
+            Call::Place { length, budget } => {
+                block_monitor_place(m, h, hl, p, pl, s, sl, length, budget, f)
+            }
             Call::Audit => block_monitor_audit(m, h, hl, p, pl, s, sl, f),
         }
     };

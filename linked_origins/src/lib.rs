@@ -121,6 +121,9 @@ pub fn call_for_literal(literal: u8, map: Map, state: &mut State, call: OriginsC
         OriginsCall::Plain(Call::Next { address }) => {
             on_state!(block_monitor_origins_next(address))
         }
+        OriginsCall::Plain(Call::Place { .. }) => {
+            panic!("the form with origins does not offer place: {call:?}")
+        }
         OriginsCall::Plain(Call::Audit) => on_state!(block_monitor_origins_audit()),
         OriginsCall::Point { cell, address } => {
             on_state!(block_monitor_origins_point(cell, address))

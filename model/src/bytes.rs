@@ -51,6 +51,7 @@ impl Lent<'_> {
             Call::ValidRead { address, n, from } => self.valid_read(address, n, from),
             Call::Initialised { address, n } => self.initialised(address, n),
             Call::Next { address } => self.next(address),
+            Call::Place { length, budget } => self.place(length, budget),
             Call::Audit => self.audit(),
         }
     }
@@ -90,7 +91,7 @@ impl Lent<'_> {
     /// The three ways to record.
     fn record(&mut self, base: u32, length: u32, beginning: Beginning) -> Outcome {
         let area = placement_as(beginning, self.map, base, length)?;
-        let place = self.place(area, base, length);
+        let place = self.positions(area, base, length);
         let zero = |shadow: &[u8]| shadow[place.clone()].iter().all(|&byte| byte == 0);
         let free = match area {
             Area::Heap => zero(self.heap),
@@ -152,7 +153,7 @@ impl Lent<'_> {
         let found = self.view().read(base).block()?;
         let found = found.filter(|found| found.offset == 0);
         let length = found.ok_or(refusal::NO_BLOCK)?.length;
-        let place = self.place(area, base, length);
+        let place = self.positions(area, base, length);
         match area {
             Area::Heap => self.heap[place].fill(0),
             Area::Stack => {
@@ -245,13 +246,46 @@ impl Lent<'_> {
         Err(refusal::NO_BLOCK)
     }
 
+    /// One climb from gap to gap (S-6); no address is read, so damage does not show.
+    fn place(&self, length: u32, budget: u32) -> Outcome {
+        not_zero(length)?;
+        let needed = (1 + u64::from(length).div_ceil(8)) * 8;
+        let mut looked_at = 0;
+        let mut chosen: Option<Range<usize>> = None;
+        let mut position = 0;
+        while looked_at < budget && position < self.heap.len() {
+            let gap = self.zero_segments_from(position);
+            if gap.is_empty() {
+                position += EIGHT;
+                continue;
+            }
+            looked_at += 1;
+            position = gap.end;
+            // An equal gap further up does not take the place of a lower one.
+            let smaller = chosen.as_ref().is_none_or(|lower| gap.len() < lower.len());
+            if gap.len() as u64 >= needed && smaller {
+                chosen = Some(gap);
+            }
+        }
+        let gap = chosen.ok_or(refusal::NO_GAP)?;
+        let base = self.map.heap_start + (gap.start + EIGHT) as u32;
+        Ok([base, looked_at, gap.len() as u32 - needed as u32, 0])
+    }
+
+    /// The positions of the zero segments that follow each other from here on.
+    fn zero_segments_from(&self, start: usize) -> Range<usize> {
+        let segments = self.heap[start..].chunks(EIGHT);
+        let zero = segments.take_while(|segment| segment.iter().all(|&byte| byte == 0));
+        start..start + EIGHT * zero.count()
+    }
+
     fn audit(&self) -> Outcome {
         let blocks = decode(self.view()).ok_or(refusal::DAMAGED)?;
         Ok(totals(self.map, &blocks))
     }
 
     /// The shadow positions of a block's footprint.
-    fn place(&self, area: Area, base: u32, length: u32) -> Range<usize> {
+    fn positions(&self, area: Area, base: u32, length: u32) -> Range<usize> {
         let start = self.map.bounds(area).start;
         let place = footprint(area, base, length);
         (place.start - start) as usize..(place.end - start) as usize

@@ -4,7 +4,7 @@ use crate::block::Beginning;
 use crate::map::NULL;
 
 /// The numbers of refusal. The lowest wins, but for 7, which is given after 8,
-/// 11 after 8, 12 after 6, and 13 after 7.
+/// 11 after 8, 12 after 6, 13 after 7, and 14 after 3.
 pub mod refusal {
     pub const BAD_MAP: u32 = 1;
     pub const SHADOW_LENGTH: u32 = 2;
@@ -19,6 +19,7 @@ pub mod refusal {
     pub const NO_CELL: u32 = 11;
     pub const USED_UP: u32 = 12;
     pub const LITERAL: u32 = 13;
+    pub const NO_GAP: u32 = 14;
 }
 
 /// A call with its arguments, in the order of the paper.
@@ -35,6 +36,7 @@ pub enum Call {
     ValidRead { address: u32, n: u32, from: u32 },
     Initialised { address: u32, n: u32 },
     Next { address: u32 },
+    Place { length: u32, budget: u32 },
     Audit,
 }
 
@@ -46,6 +48,7 @@ impl Call {
             Call::Clear | Call::Free { .. } | Call::Written { .. } => 0,
             Call::Valid { .. } | Call::ValidRead { .. } | Call::Initialised { .. } => 1,
             Call::Next { .. } => 2,
+            Call::Place { .. } => 3,
             Call::Ask { .. } | Call::Audit => 4,
         }
     }
@@ -75,10 +78,10 @@ impl Call {
         }
     }
 
-    /// The call's kind and fields in a calls file; clear has no kind of its own.
+    /// The call's kind and fields in a calls file; clear and place have no kind.
     pub fn record_fields(self) -> Option<(u16, Vec<u32>)> {
         Some(match self {
-            Call::Clear => return None,
+            Call::Clear | Call::Place { .. } => return None,
             Call::Record { base, length } => (2, vec![base, length]),
             Call::Free { base } => (3, vec![base]),
             Call::Written { address, n } => (4, vec![address, n]),

@@ -1,8 +1,10 @@
 //! Seeded maps and calls that crowd the areas and keep to their edges.
 //!
-//! The submodules make shadow bytes and input files of the same kind.
+//! The submodules make shadow bytes and input files of the same kind, and ask
+//! for places.
 
 pub mod file;
+pub mod places;
 pub mod shadows;
 
 use crate::block::{Beginning, Block};
@@ -69,6 +71,14 @@ pub fn edge_map(random: &mut Random) -> Map {
 
 /// Any of the calls, refused ones included; blocks are the live ones.
 pub fn call(random: &mut Random, map: Map, blocks: &[Block]) -> Call {
+    match random.once_in(20) {
+        true => places::place(random, map, blocks),
+        false => call_of_both_forms(random, map, blocks),
+    }
+}
+
+/// The same without place, which the form with origins does not offer.
+pub(crate) fn call_of_both_forms(random: &mut Random, map: Map, blocks: &[Block]) -> Call {
     match random.below(100) {
         0 => Call::Clear,
         1..=34 => record(random, map, blocks),

@@ -176,9 +176,14 @@ pub(crate) fn call_of(text: &str) -> Option<Call> {
     let text = text.trim_matches(' ');
     let (name, rest) = text.split_once(' ').unwrap_or((text, ""));
     let fields = numbers_of(rest)?;
-    match NAMES.iter().find(|(_, known)| *known == name) {
-        Some(&(kind, _)) => Call::from_record(kind, &fields),
-        None => (name == "clear" && fields.is_empty()).then_some(Call::Clear),
+    match (name, &fields[..]) {
+        // These two have no kind.
+        ("clear", &[]) => Some(Call::Clear),
+        ("place", &[length, budget]) => Some(Call::Place { length, budget }),
+        _ => {
+            let &(kind, _) = NAMES.iter().find(|(_, known)| *known == name)?;
+            Call::from_record(kind, &fields)
+        }
     }
 }
 

@@ -1,10 +1,12 @@
 //! The plain list: live blocks in address order, and no shadow anywhere.
 //!
-//! It is fed the map and each call's arguments, nothing else.
+//! It is fed the map and each call's arguments, nothing else. What the paper
+//! defines by shadow bytes is worked out on the list's own image.
 
 use crate::block::{footprint, meet, placement_as, Beginning, Block};
 use crate::call::{refusal, Answer, Call, Outcome, NO_FIELDS};
-use crate::map::{Area, Map, NULL};
+use crate::image::{image, EIGHT};
+use crate::map::{Area, Map, NULL, SEGMENT};
 
 /// What the paper calls the plain list, whatever holds its blocks.
 pub trait List {
@@ -68,6 +70,7 @@ impl PlainList {
             Call::ValidRead { address, n, from } => self.valid_read(address, n, from),
             Call::Initialised { address, n } => self.initialised(address, n),
             Call::Next { address } => self.next(address),
+            Call::Place { length, budget } => self.place(length, budget),
             Call::Audit => Ok(self.audit()),
         }
     }
@@ -147,6 +150,38 @@ impl PlainList {
         let mut following = self.blocks.iter().filter(|block| block.base >= address);
         let block = following.next().ok_or(refusal::NO_BLOCK)?;
         Ok([block.base, block.length, 0, 0])
+    }
+
+    /// Gaps are defined by shadow bytes, so they are those of the list's own image.
+    fn place(&self, length: u32, budget: u32) -> Outcome {
+        not_zero(length)?;
+        let gaps = self.gaps();
+        let looked_at = &gaps[..gaps.len().min(budget as usize)];
+        let taken = SEGMENT + u64::from(length);
+        let fitting = looked_at.iter().filter(|&&(_, size)| size >= taken);
+        // Of equal gaps this is the first, and so the lowest.
+        let chosen = fitting.min_by_key(|&&(_, size)| size);
+        let &(start, size) = chosen.ok_or(refusal::NO_GAP)?;
+        let surplus = size - taken.next_multiple_of(SEGMENT);
+        let base = (start + SEGMENT) as u32;
+        Ok([base, looked_at.len() as u32, surplus as u32, 0])
+    }
+
+    /// Address and bytes of each gap: what the image has between two segments
+    /// that are not zero, or between one and an end of the heap.
+    fn gaps(&self) -> Vec<(u64, u64)> {
+        let heap = image(self.map, &self.blocks).heap;
+        let segments: Vec<&[u8]> = heap.chunks(EIGHT).collect();
+        let mut start = self.map.bounds(Area::Heap).start;
+        let mut gaps = Vec::new();
+        for between in segments.split(|segment| **segment != [0; EIGHT]) {
+            let size = SEGMENT * between.len() as u64;
+            if size > 0 {
+                gaps.push((start, size));
+            }
+            start += size + SEGMENT;
+        }
+        gaps
     }
 
     fn audit(&self) -> [u32; 4] {

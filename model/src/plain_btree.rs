@@ -1,10 +1,11 @@
 //! The plain list on a `BTreeMap` keyed by base: same answers, faster look-ups.
 
 use std::collections::BTreeMap;
+use std::iter::once;
 
 use crate::block::{footprint, meet, placement_as, Beginning, Block};
 use crate::call::{refusal, Answer, Call, Outcome, NO_FIELDS};
-use crate::map::{Map, NULL};
+use crate::map::{Area, Map, NULL, SEGMENT};
 use crate::plain::{not_literal, not_zero, totals, List};
 
 /// The plain list on a balanced tree, a peer for timing.
@@ -49,6 +50,7 @@ impl PlainTree {
             Call::ValidRead { address, n, from } => self.valid_read(address, n, from),
             Call::Initialised { address, n } => self.initialised(address, n),
             Call::Next { address } => self.next(address),
+            Call::Place { length, budget } => self.place(length, budget),
             Call::Audit => Ok(totals(self.map, self.blocks.values())),
         }
     }
@@ -131,6 +133,38 @@ impl PlainTree {
         let following = self.blocks.range(address..).next();
         let (_, block) = following.ok_or(refusal::NO_BLOCK)?;
         Ok([block.base, block.length, 0, 0])
+    }
+
+    /// A footprint has no zero segment and all others are zero, so that a gap is
+    /// the room between two footprints, or between one and an end of the heap.
+    fn place(&self, length: u32, budget: u32) -> Outcome {
+        not_zero(length)?;
+        let heap = self.map.bounds(Area::Heap);
+        let blocks = self.blocks.range(heap.start as u32..heap.end as u32);
+        let mut free_from = heap.start;
+        let mut looked_at = 0;
+        let mut chosen: Option<(u64, u32)> = None;
+        let taken = blocks.map(|(&base, block)| footprint(Area::Heap, base, block.length));
+        for next in taken.chain(once(heap.end..heap.end)) {
+            let gap = free_from..next.start;
+            free_from = next.end;
+            if gap.is_empty() || looked_at == budget {
+                continue;
+            }
+            looked_at += 1;
+            let base = (gap.start + SEGMENT) as u32;
+            // The block's own footprint would begin where the gap does.
+            let end = footprint(Area::Heap, base, length).end;
+            let surplus = gap.end.checked_sub(end);
+            // For one length the smaller gap is the one with less surplus.
+            chosen = match (surplus, chosen) {
+                (Some(less), Some((least, _))) if less < least => Some((less, base)),
+                (Some(first), None) => Some((first, base)),
+                _ => chosen,
+            };
+        }
+        let (surplus, base) = chosen.ok_or(refusal::NO_GAP)?;
+        Ok([base, looked_at, surplus as u32, 0])
     }
 
     /// The last block at or below the address is the only one that can hold it.

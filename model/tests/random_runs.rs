@@ -12,11 +12,14 @@ use model::plain_btree::PlainTree;
 use model::random::Random;
 
 /// How often each call met each number, so that a run can show what it tried.
-type Met = [[u32; 14]; 15];
+type Met = [[u32; 15]; 16];
 
+/// By kind, from 1 on; clear and place have none, and come first and last.
 fn index(call: Call) -> usize {
-    call.record_fields()
-        .map_or(0, |(kind, _)| usize::from(kind) - 1)
+    match (call, call.record_fields()) {
+        (Call::Place { .. }, _) => 15,
+        (_, kind) => kind.map_or(0, |(kind, _)| usize::from(kind) - 1),
+    }
 }
 
 /// A run on all three models; numbers, fields and every shadow byte must agree.
@@ -49,7 +52,7 @@ fn crowded_areas() {
         run(&mut random, map, 200, &mut met);
     }
     // Every number that a list can give was met by every call that can give it.
-    let given: [&[usize]; 15] = [
+    let given: [&[usize]; 16] = [
         &[0],
         &[0, 3, 4, 5, 6],
         &[0, 4, 7],
@@ -66,6 +69,7 @@ fn crowded_areas() {
         &[],
         &[0, 3, 4, 6],
         &[0, 3],
+        &[0, 3, 14],
     ];
     for (kind, numbers) in given.iter().enumerate() {
         for (number, &count) in met[kind].iter().enumerate() {

@@ -17,7 +17,7 @@ use model::reading::View;
 use model::samples::{answered, LONGEST_LINE};
 
 /// The files of tests/data whose right-hand sides are stated and stored.
-const STATED: [&str; 14] = [
+const STATED: [&str; 15] = [
     "document-01.txt",
     "open-points.txt",
     "damage.txt",
@@ -32,6 +32,7 @@ const STATED: [&str; 14] = [
     "literals-open-points.txt",
     "literals.txt",
     "literals-origins.txt",
+    "place.txt",
 ];
 
 /// A line of a data file as the program reads it, and what is stated of it.

@@ -60,9 +60,26 @@ fn forms() -> Report {
     report
 }
 
-fn page(tables: &str, forms: &str, marks: &str) -> String {
+/// The same numbers for place beside C.
+fn others() -> Others {
+    let mut gaps = forms();
+    gaps.titles = vec!["monitor", "C", "memset"];
+    gaps.plan.targets = |case, _| {
+        vec![Target {
+            case,
+            peer: "memset",
+            most: 6.0,
+        }]
+    };
+    Others {
+        forms: forms(),
+        gaps,
+    }
+}
+
+fn page(tables: &str, forms: &str, gaps: &str, marks: &str) -> String {
     format!(
-        "# Page\n\n{BEGIN}{tables}{END}\n\n{BEGIN_FORMS}{forms}{END}\n\nBetween.\n\n{BEGIN_MARKS}{marks}{END}\n\nLast.\n"
+        "# Page\n\n{BEGIN}{tables}{END}\n\n{BEGIN_FORMS}{forms}{END}\n\n{BEGIN_GAPS}{gaps}{END}\n\nBetween.\n\n{BEGIN_MARKS}{marks}{END}\n\nLast.\n"
     )
 }
 
@@ -94,19 +111,29 @@ fn forms_side_by_side() {
     assert!(text.ends_with("| some marks | 3.00 | 8.00 | 0.75 | 1.00 | 3.00 | 50 | 200 | 0.25 |\n"));
 }
 
+/// The same ratios, the target met.
+#[test]
+fn place_beside_c() {
+    let text = others().gaps.gap_text();
+    assert!(text.contains("| some marks | 6 × memset | 3.00 | met |\n"));
+    assert!(text.contains("| ns | ns C | of C | ns memset |"));
+    assert!(text.ends_with("| some marks | 3.00 | 8.00 | 0.75 | 1.00 | 3.00 | 50 | 200 | 0.25 |\n"));
+}
+
 /// Each kind of run leaves what the other writes.
 #[test]
 fn places_in_the_page() {
-    let old = page("old tables", "old forms", "old marks");
-    let marks = report(true).page(&old, &forms());
+    let old = page("old tables", "old forms", "old gaps", "old marks");
+    let marks = report(true).page(&old, &others());
     assert!(marks.contains("old tables") && !marks.contains("old marks"));
-    assert!(marks.contains("old forms"));
+    assert!(marks.contains("old forms") && marks.contains("old gaps"));
     assert!(marks.contains("- Before: commit 0123456\n\nBoth builds"));
     assert!(marks.ends_with(&format!("| 0.25 |\n{END}\n\nLast.\n")));
     assert!(!marks.contains("an ask"));
-    let tables = report(false).page(&old, &forms());
+    let tables = report(false).page(&old, &others());
     assert!(tables.contains("old marks") && !tables.contains("old tables"));
     assert!(!tables.contains("old forms") && tables.contains("| some marks | 0.5 × plain |"));
+    assert!(!tables.contains("old gaps") && tables.contains("| some marks | 6 × memset |"));
     assert!(tables.contains("| an ask | 2.00 |"));
     assert!(tables.contains(&format!("{END}\n\nBetween.")));
 }
@@ -114,8 +141,8 @@ fn places_in_the_page() {
 #[test]
 fn page_has_its_places() {
     let page = include_str!("../../../docs/BENCHMARKS.md");
-    for begin in [BEGIN, BEGIN_FORMS, BEGIN_MARKS] {
+    for begin in [BEGIN, BEGIN_FORMS, BEGIN_GAPS, BEGIN_MARKS] {
         assert_eq!(page.matches(begin).count(), 1, "{begin}");
     }
-    assert_eq!(page.matches(END).count(), 3);
+    assert_eq!(page.matches(END).count(), 4);
 }

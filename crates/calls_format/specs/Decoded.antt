@@ -7,7 +7,7 @@ use Prim.Native.Nat.{ℕ}
 use lib.Dec.{eqb}
 use Rattle.plain.specs.declared.Beginning.{Beginning}
 use Rattle.plain.specs.declared.Beginning.the-variants.{Unwritten, Written, Literal}
-use Rattle.plain.specs.Call.{Call, clear, begin, free, written, ask, valid, initialised, next, audit}
+use Rattle.plain.specs.Call.{Call, clear, begin, free, written, ask, valid, initialised, next, audit, place}
 use Rattle.monitor_base.specs.Answers.{callOf}
 use Rattle.calls_format.specs.declared.Request as code
 use Rattle.calls_format.specs.declared.Request.the-variants as case
@@ -39,7 +39,7 @@ abbrev pub validKind : (write : Bool) → ℕ
 validKind true = 6
 validKind false = 15
 
--- the kind of a call; clear has none of its own
+-- the kind of a call; clear and place have none of their own
 abbrev pub callKind : Call → ℕ
 callKind clear = 0
 callKind (begin how b l) = beginKind how
@@ -50,6 +50,7 @@ callKind (valid write a n from) = validKind write
 callKind (initialised a n) = 7
 callKind (next a) = 8
 callKind audit = 9
+callKind (place l k) = 0
 
 abbrev pub kindOf : Request → ℕ
 kindOf (newMap m) = 1

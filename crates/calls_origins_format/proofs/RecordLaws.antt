@@ -11,7 +11,7 @@ use lib.Dec.{leb, eqb}
 use borrow.Author.Tests.{le-leb, lt-leb, eq-eqb, ne-eqb, leb-true, eqb-true, eqb-false}
 use Rattle.number.proofs.TestLaws.{Test, is-true, is-false, test, and-true, and-false-r}
 use Rattle.plain.specs.declared.Beginning.the-variants.{Unwritten, Written, Literal}
-use Rattle.plain.specs.Call.{clear, begin, free, written, ask, valid, initialised, next, audit}
+use Rattle.plain.specs.Call.{clear, begin, free, written, ask, valid, initialised, next, audit, place}
 use Rattle.origins_list.specs.Call.{point, copy, live}
 use Rattle.origins_base.specs.declared.Pointer.{Pointer}
 use Rattle.origins_base.specs.declared.Pointer.the-variants.{Point, Copy, Live}
@@ -122,6 +122,7 @@ plain-length (call (valid false a n from)) = refl
 plain-length (call (initialised a n)) = refl
 plain-length (call (next a)) = refl
 plain-length (call audit) = refl
+plain-length (call (place l k)) = refl
 
 pub pointer-length : (p : Pointer) → lengthOf (formKind (pointerOf p)) ≡ ownLength
 pointer-length (Point c a) = refl

@@ -32,7 +32,7 @@ fn call_on(
     let h = sizes.heap;
     let p = sizes.primary;
     let s = sizes.secondary;
-    monitor::step(
+    monitor::call_step(
         call,
         map,
         &mut heap[0..h],

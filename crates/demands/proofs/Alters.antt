@@ -15,12 +15,12 @@ use Rattle.map.proofs.MapLaws.{Good, good-true, within-true, true-within}
 use Rattle.plain.specs.declared.Beginning.{Beginning}
 use Rattle.plain.specs.Block.{Block, len, startsWritten, begun}
 use Rattle.plain.specs.Rules.{Placed}
-use Rattle.plain.specs.Areas.{segments, heapRules, stackRules, mapRules}
+use Rattle.plain.specs.Areas.{segments, placeLength, heapRules, stackRules, mapRules}
 use Rattle.plain.specs.Reading.{Reading, nothing, block, damaged}
 use Rattle.plain.specs.Lift.{readingUp, down}
 use Rattle.plain.specs.Join.{only}
 use Rattle.plain.specs.Ops.{markRange, readAny}
-use Rattle.plain.specs.Call.{Call, clear, begin, free, written, ask, valid, initialised, next, audit, firstOf, unless}
+use Rattle.plain.specs.Call.{Call, clear, begin, free, written, ask, valid, initialised, next, audit, place, firstOf, unless}
 use Rattle.plain.specs.ShadowCalls.{lengthOf, inOne, shadowsAfter, shadowAnswer}
 use Rattle.heap_layout.specs.Reading.{heapReading}
 use Rattle.plain.proofs.AreaLaws.{heap-shifted, stack-shifted}
@@ -28,7 +28,7 @@ use Rattle.plain.proofs.JoinLaws.{true-or}
 use Rattle.plain.proofs.KeptLaws.{base-inside}
 use Rattle.plain.proofs.StampedLaws.{Stands}
 use Rattle.heap_layout.specs.Image.{heapByte, heapImage}
-use Rattle.heap_layout.specs.Ops.{placeLength, heapStamp, heapErase, heapMark}
+use Rattle.heap_layout.specs.Ops.{heapStamp, heapErase, heapMark}
 use Rattle.heap_layout.proofs.SegmentLaws.{Sizes}
 use Rattle.heap_layout.proofs.StampLaws as heap
 use Rattle.stack_layout.specs.Reading.{stackReading}
@@ -262,6 +262,7 @@ module _ (m : Map) where
   after-long (initialised a n) s f = (refl, refl, refl)
   after-long (next a) s f = (refl, refl, refl)
   after-long audit s f = (refl, refl, refl)
+  after-long (place l k) s f = (refl, refl, refl)
 
 pub lengths-kept : LengthsKept
 unfolding call

@@ -9,12 +9,12 @@ use Rattle.number.specs.Parts.{Each}
 use Rattle.map.specs.declared.Map.{Map}
 use Rattle.map.specs.Map.{goodMap}
 use Rattle.plain.specs.Areas.{mapRules}
-use Rattle.plain.specs.Call.{Call, clear, begin, free, written, ask, valid, initialised, next, audit, Answer, number, refusal, Refusal, firstOf, unless}
+use Rattle.plain.specs.Call.{Call, clear, begin, free, written, ask, valid, initialised, next, audit, place, Answer, number, refusal, Refusal, firstOf, unless}
 use Rattle.plain.specs.ShadowCalls.{shadowsAfter, shadowAnswer}
 use Rattle.plain.proofs.AnswerLaws.{accepted-0}
 use Rattle.shadows.specs.Shadows.{Shadows, lengthsFit, shadowOps}
 use Rattle.monitor_base.specs.Calls.{refusals, call}
-use Rattle.demands.specs.Numbers.{isEmpty, isMisplaced, isUnaligned, isTaken, damageMet, blockMissed, intoLiteral, rows}
+use Rattle.demands.specs.Numbers.{isEmpty, isMisplaced, isUnaligned, isTaken, damageMet, blockMissed, intoLiteral, noRoom, rows}
 use Rattle.demands.specs.Demand1.{isQuestion, RefusedAltersNothing, QuestionsAlterNothing, ByTheTable, AcceptedExactly, LowestWins, ItsRowHolds, SevenWithoutEight, EightOnlyThere, EightThere}
 use Rattle.demands.proofs.Numbers.{by-rows}
 use Rattle.demands.proofs.RowLaws.{Ascending, passed, first-none, none-first, lowest, first-holds, late}
@@ -48,6 +48,7 @@ questions-alter-nothing m c s q = go c q
     go (initialised a n) q = same (firstOf (refusals m (initialised a n) s)) _
     go (next a) q = same (firstOf (refusals m (next a) s)) _
     go audit q = same (firstOf (refusals m audit s)) _
+    go (place l k) q = same (firstOf (refusals m (place l k) s)) _
 
 pub by-the-table : ByTheTable
 by-the-table = by-rows
@@ -56,7 +57,7 @@ by-the-table = by-rows
 
 ascending : (m : Map) (c : Call) (s : Shadows) → Ascending 0 (rows m c s)
 ascending m c s =
-    (omega arith, (omega arith, (omega arith, (omega arith, (omega arith, (omega arith, (omega arith, (omega arith, (omega arith, tt)))))))))
+    (omega arith, (omega arith, (omega arith, (omega arith, (omega arith, (omega arith, (omega arith, (omega arith, (omega arith, (omega arith, tt))))))))))
 
 pub accepted-exactly : AcceptedExactly
 accepted-exactly m c s = (
@@ -79,23 +80,24 @@ abbrev early : Map → Call → Shadows → List Refusal
 early m c s =
     (1, not (goodMap m)) ∷ (2, not (lengthsFit m s)) ∷ (3, isEmpty c) ∷ (4, isMisplaced m c) ∷ (5, isUnaligned m c) ∷ (6, isTaken m c s) ∷ []
 
--- 7, 8 and 13
+-- 7, 8, 13 and 14
 abbrev last : Map → Call → Shadows → List Refusal
-last m c s = (7, blockMissed m c s && not (damageMet m c s)) ∷ (8, damageMet m c s) ∷ (13, intoLiteral m c s) ∷ []
+last m c s = (7, blockMissed m c s && not (damageMet m c s)) ∷ (8, damageMet m c s) ∷ (13, intoLiteral m c s) ∷ (14, noRoom m c s) ∷ []
 
 below : (m : Map) (c : Call) (s : Shadows) (n : ℕ) → 7 ≤ n → Each (λ (r : Refusal). r .0 ≢ n) (early m c s)
 below m c s n h = (omega arith, (omega arith, (omega arith, (omega arith, (omega arith, (omega arith, tt))))))
 
-seven : (n d t : Bool) → _≡_ {A = ℕ} (cond (n && not d) 7 (cond d 8 (cond t 13 0))) 7 → d ≡ false
-seven n false t e = refl
-seven true true t e = absurd (omega arith)
-seven false true t e = absurd (omega arith)
+seven : (n d t g : Bool) → _≡_ {A = ℕ} (cond (n && not d) 7 (cond d 8 (cond t 13 (cond g 14 0)))) 7 → d ≡ false
+seven n false t g e = refl
+seven true true t g e = absurd (omega arith)
+seven false true t g e = absurd (omega arith)
 
-eight : (n d t : Bool) → _≡_ {A = ℕ} (cond (n && not d) 7 (cond d 8 (cond t 13 0))) 8 → d ≡ true
-eight n true t e = refl
-eight true false t e = absurd (omega arith)
-eight false false true e = absurd (omega arith)
-eight false false false e = absurd (omega arith)
+eight : (n d t g : Bool) → _≡_ {A = ℕ} (cond (n && not d) 7 (cond d 8 (cond t 13 (cond g 14 0)))) 8 → d ≡ true
+eight n true t g e = refl
+eight true false t g e = absurd (omega arith)
+eight false false true g e = absurd (omega arith)
+eight false false false true e = absurd (omega arith)
+eight false false false false e = absurd (omega arith)
 
 is-eight : (n d : Bool) (r : ℕ) → d ≡ true → _≡_ {A = ℕ} (cond (n && not d) 7 (cond d 8 r)) 8
 is-eight true true r e = refl
@@ -104,12 +106,12 @@ is-eight n false r e = absurd (false≢true e)
 
 pub seven-without-eight : SevenWithoutEight
 seven-without-eight m c s e =
-    seven (blockMissed m c s) (damageMet m c s) (intoLiteral m c s)
+    seven (blockMissed m c s) (damageMet m c s) (intoLiteral m c s) (noRoom m c s)
     (late (early m c s) (last m c s) 7 (below m c s 7 (omega arith)) (sym (by-rows m c s) ∙ e))
 
 pub eight-only-there : EightOnlyThere
 eight-only-there m c s e =
-    eight (blockMissed m c s) (damageMet m c s) (intoLiteral m c s)
+    eight (blockMissed m c s) (damageMet m c s) (intoLiteral m c s) (noRoom m c s)
     (late (early m c s) (last m c s) 8 (below m c s 8 (omega arith)) (sym (by-rows m c s) ∙ e))
 
 -- 5 and 6 are record's alone, which has no 8
@@ -123,6 +125,7 @@ no-record m (valid w a n from) s d = (refl, refl)
 no-record m (initialised a n) s d = (refl, refl)
 no-record m (next a) s d = (refl, refl)
 no-record m audit s d = (refl, refl)
+no-record m (place l k) s d = (refl, refl)
 
 pub eight-there : EightThere
 eight-there m c s ok fit e p d =

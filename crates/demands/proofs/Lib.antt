@@ -3,6 +3,9 @@ pub mod Begun
 pub mod Demand1
 pub mod Demand2
 pub mod Demand3
+pub mod GapLists
+pub mod GapRuns
+pub mod GapWords
 pub mod Good
 pub mod Literals
 pub mod LiteralBits
@@ -12,6 +15,8 @@ pub mod MarkLaws
 pub mod Null
 pub mod Numbers
 pub mod OverLaws
+pub mod PlaceTold
+pub mod Places
 pub mod Readings
 pub mod Rest
 pub mod RowLaws

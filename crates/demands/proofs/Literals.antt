@@ -19,7 +19,7 @@ use Rattle.plain.specs.Rules.{Placed}
 use Rattle.plain.specs.Areas.{mapRules}
 use Rattle.plain.specs.Reading.{nothing, block}
 use Rattle.plain.specs.Ops.{markRange, readAny}
-use Rattle.plain.specs.Call.{Call, clear, begin, free, written, ask, valid, initialised, next, audit, answer, done, yesNo, firstOf, unless, byRules}
+use Rattle.plain.specs.Call.{Call, clear, begin, free, written, ask, valid, initialised, next, audit, place, answer, done, yesNo, firstOf, unless, byRules}
 use Rattle.plain.specs.PlainList.{byList, listAfter, listAnswer, plainStep}
 use Rattle.plain.specs.ShadowCalls.{shadowStep}
 use Rattle.plain.proofs.BlockLaws.{contains-true, true-contains, holds-true, true-holds}
@@ -114,6 +114,7 @@ module _ (m : Map) (ok : goodMap m ≡ true) (bs : List Block) (P : Placed (mapR
   after-has (initialised a n) e = h
   after-has (next a) e = h
   after-has audit e = h
+  after-has (place l k) e = h
 
   still-has : (c : Call) → endsBlock (b .base) c ≡ false → Has b ((plainStep (mapRules m) c bs) .0)
   unfolding plainStep

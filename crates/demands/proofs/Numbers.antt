@@ -10,20 +10,21 @@ use Rattle.number.specs.Bits.{bit}
 use Rattle.map.specs.declared.Map.{Map}
 use Rattle.plain.specs.declared.Beginning.{Beginning}
 use Rattle.plain.specs.declared.Beginning.the-variants.{Unwritten, Written, Literal}
-use Rattle.plain.specs.Areas.{mapRules}
+use Rattle.plain.specs.Areas.{placeLength, mapRules}
 use Rattle.plain.specs.Ops.{readAny}
 use Rattle.plain.specs.Reading.{Reading, nothing, block, damaged}
-use Rattle.plain.specs.Call.{Call, clear, begin, free, written, ask, valid, initialised, next, audit, number, firstOf, allows, byRules}
+use Rattle.plain.specs.Call.{Call, clear, begin, free, written, ask, valid, initialised, next, audit, place, number, firstOf, allows, byRules}
 use Rattle.plain.specs.ShadowCalls.{isDamaged, isBlock, isFirst, climb, stop, search, byShadows}
 use Rattle.plain.proofs.AnswerLaws.{accepted-0}
 use Rattle.plain.proofs.RunLaws.{unless-number}
-use Rattle.heap_layout.specs.Ops.{placeLength, heapVacant}
+use Rattle.heap_layout.specs.Ops.{heapVacant}
 use Rattle.stack_layout.specs.Ops.{stackVacant}
 use Rattle.shadows.specs.Shadows.{Shadows, shadowOps}
 use Rattle.monitor_base.specs.Calls.{refusals, call}
 use Rattle.demands.specs.Addresses.{inHeap, inStack, outside, endOfAreas, readingAt}
 use Rattle.demands.specs.Numbers.{isMisplaced, placeZero, damagedFirst, noneBegins, damageMet, blockMissed, rows}
 use Rattle.demands.proofs.RowLaws.{pastTwo}
+use Rattle.demands.proofs.GapWords.{room-words}
 
 -- ---- the first condition that holds
 
@@ -173,6 +174,7 @@ later-rows m (initialised a n) s = rw (reading-words m s a)
 later-rows m (next a) s =
     rw (search-words m s a, climb-damaged (readingAt m s) a (endOfAreas m - a), last-two m (next a) s _ 0 (climb-none (readingAt m s) a (endOfAreas m - a)))
 later-rows m audit s = refl
+later-rows m (place l k) s = rw (room-words m s l k)
 
 same-rows : (m : Map) (c : Call) (s : Shadows) → firstOf (refusals m c s) ≡ firstOf (rows m c s)
 same-rows m c s = rw (later-rows m c s)

@@ -4,15 +4,16 @@ use Rattle.number.specs.Little.{byteOf, word}
 use Rattle.number.specs.Bits.{bitOf, withBit, ofBits, ones}
 use Rattle.number.specs.Parts.{tab, zeros, over}
 use Rattle.map.specs.Map.{goodArea, apart, goodMap}
-use Rattle.plain.specs.Areas.{segments}
+use Rattle.plain.specs.Areas.{segments, placeLength}
 use Rattle.plain.specs.Blocks.{total}
+use Rattle.plain.specs.Gaps.{gapsAfter, best}
 use Rattle.plain.specs.Layer.{layer}
 use Rattle.plain.specs.Ops.{markRange, rangeMarked, readAny}
 use Rattle.plain.specs.ShadowCalls.{climb}
 use Rattle.heap_layout.specs.Image.{cellByte, covers, own, heapByte}
 use Rattle.heap_layout.specs.Reading.{heapReading}
 use Rattle.heap_layout.specs.Walk.{agree, matches, marksAt, heapWalk}
-use Rattle.heap_layout.specs.Ops.{placeLength, heapVacant, heapStamp, heapErase, heapMark, heapMarked}
+use Rattle.heap_layout.specs.Ops.{heapVacant, heapStamp, heapErase, heapMark, heapMarked, heapGaps}
 use Rattle.stack_layout.specs.Code.{shortCode, pieceOf, codeOf, pieceByte, lowBits, primaryOf, secondaryOf, lengthFrom, shortLength, shortOffset}
 use Rattle.stack_layout.specs.Image.{primaryOwn, secondaryOwn}
 use Rattle.stack_layout.specs.Reading.{fitted, badPiece, longReading, codeReading, stackReading}
@@ -25,10 +26,11 @@ use Rattle.demands.specs.DamageSamples.{readings, callsOnDamage, DamageS
 use Rattle.demands.specs.GivenShadows.{put, allGiven}
 use Rattle.demands.specs.Samples.{sameBytes, runHolds, allHold, table, edges, begunWritten, larger, SamplesHold}
 use Rattle.demands.specs.LiteralSamples.{literals, LiteralSamplesHold}
+use Rattle.demands.specs.PlaceSamples.{places, placesInRun, placesAtTop, PlaceSamplesHold}
 
-computed : SamplesHold × DamageSamplesHold × LiteralSamplesHold
-unfolding byteOf word bitOf withBit ofBits ones tab zeros over goodArea apart goodMap segments total layer markRange rangeMarked readAny climb cellByte covers own heapByte heapReading agree matches marksAt heapWalk placeLength heapVacant heapStamp heapErase heapMark heapMarked shortCode pieceOf codeOf pieceByte lowBits primaryOf secondaryOf lengthFrom shortLength shortOffset primaryOwn secondaryOwn fitted badPiece longReading codeReading stackReading isClear isByte lengthAt stackWalk stackVacant stackStamp stackErase stackMark stackMarked lengthsFit call sameBytes runHolds allHold table edges begunWritten literals larger put allGiven readings numbers callsOnDamage disagreeing
-computed = ((refl, refl, refl, refl), (refl, refl, refl, refl), refl)
+computed : SamplesHold × DamageSamplesHold × LiteralSamplesHold × PlaceSamplesHold
+unfolding byteOf word bitOf withBit ofBits ones tab zeros over goodArea apart goodMap segments total layer markRange rangeMarked readAny climb cellByte covers own heapByte heapReading agree matches marksAt heapWalk placeLength heapVacant heapStamp heapErase heapMark heapMarked shortCode pieceOf codeOf pieceByte lowBits primaryOf secondaryOf lengthFrom shortLength shortOffset primaryOwn secondaryOwn fitted badPiece longReading codeReading stackReading isClear isByte lengthAt stackWalk stackVacant stackStamp stackErase stackMark stackMarked lengthsFit call sameBytes runHolds allHold table edges begunWritten literals larger put allGiven readings numbers callsOnDamage disagreeing gapsAfter best heapGaps places placesInRun placesAtTop
+computed = ((refl, refl, refl, refl), (refl, refl, refl, refl), refl, (refl, refl, refl))
 
 pub samples-hold : SamplesHold
 samples-hold = computed .0
@@ -38,3 +40,6 @@ damage-samples-hold = computed .1
 
 pub literal-samples-hold : LiteralSamplesHold
 literal-samples-hold = computed .2
+
+pub place-samples-hold : PlaceSamplesHold
+place-samples-hold = computed .3

@@ -15,7 +15,7 @@ use Rattle.plain.specs.Block.{Block}
 use Rattle.plain.specs.Rules.{Placed}
 use Rattle.plain.specs.Reading.{Reading, nothing, block, damaged, lookup}
 use Rattle.plain.specs.Ops.{rangeMarked}
-use Rattle.plain.specs.Call.{Call, clear, begin, free, written, ask, valid, initialised, next, audit, Answer, answer, yesNo, firstOf}
+use Rattle.plain.specs.Call.{Call, clear, begin, free, written, ask, valid, initialised, next, audit, place, Answer, answer, yesNo, firstOf}
 use Rattle.plain.specs.ShadowCalls.{isDamaged, isFirst, inOne, isLiteral, sameBlock, stop, climb, nextAnswer, shadowAnswer}
 use Rattle.shadows.specs.Shadows.{Shadows, lengthsFit, shadowOps, image}
 use Rattle.shadows.proofs.ShadowLaws.{map-sound}
@@ -29,6 +29,7 @@ use Rattle.demands.specs.Told.{readTold, validTold, eachOne, initialised
 use Rattle.demands.proofs.Numbers.{number-first, and-right, bit-words, reading-words, search-words}
 use Rattle.demands.proofs.Demand1.{accepted-exactly}
 use Rattle.demands.proofs.Demand2.{ask-reads, image-listed, image-told, audit-only}
+use Rattle.demands.proofs.PlaceTold.{place-told}
 use Rattle.demands.proofs.Starts.{written-marked}
 use Rattle.demands.proofs.Totals.{live-told, written-told, count-told}
 
@@ -126,3 +127,4 @@ answers-read m (next a) s e =
     let h = accepted-exactly m (next a) s .1 e in
     answered m (next a) s e ∙ rw (search-words m s a) (next-words (readingAt m s) (endOfAreas m - a) a (h .1 .1 .1 .1 .1 .1 .1 .0))
 answers-read m audit s e = audited m s e
+answers-read m (place l k) s e = place-told m s l k e

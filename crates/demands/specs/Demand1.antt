@@ -10,7 +10,7 @@ use Prim.Native.Nat.{ℕ, _≤_}
 use Rattle.number.specs.Parts.{Each}
 use Rattle.map.specs.declared.Map.{Map}
 use Rattle.map.specs.Map.{goodMap}
-use Rattle.plain.specs.Call.{Call, clear, begin, free, written, ask, valid, initialised, next, audit, answer, number, Refusal, firstOf}
+use Rattle.plain.specs.Call.{Call, clear, begin, free, written, ask, valid, initialised, next, audit, place, answer, number, Refusal, firstOf}
 use Rattle.shadows.specs.Shadows.{Shadows, lengthsFit}
 use Rattle.monitor_base.specs.Calls.{call}
 use Rattle.demands.specs.Numbers.{isEmpty, isMisplaced, damageMet, rows}
@@ -27,7 +27,7 @@ NoneHolds rs = Each (λ (r : Refusal). r .1 ≡ false) rs
 abbrev pub RefusedAltersNothing : Type 0
 RefusedAltersNothing = (m : Map) (c : Call) (s : Shadows) → numberOf m c s ≢ 0 → call m c s ≡ (s, answer (numberOf m c s) 0 0 0 0)
 
--- ask, valid, valid_read, initialised, next and audit alter no shadow byte, accepted or refused
+-- ask, valid, valid_read, initialised, next, audit and place alter no shadow byte, accepted or refused
 abbrev pub isQuestion : Call → Bool
 isQuestion clear = false
 isQuestion (begin h b l) = false
@@ -38,6 +38,7 @@ isQuestion (valid w a n from) = true
 isQuestion (initialised a n) = true
 isQuestion (next a) = true
 isQuestion audit = true
+isQuestion (place l k) = true
 
 abbrev pub QuestionsAlterNothing : Type 0
 QuestionsAlterNothing = (m : Map) (c : Call) (s : Shadows) → isQuestion c ≡ true → (call m c s) .0 ≡ s

@@ -6,10 +6,13 @@ pub mod DamageSamples
 pub mod Demand1
 pub mod Demand2
 pub mod Demand3
+pub mod Gaps
 pub mod GivenShadows
 pub mod Good
 pub mod MapSamples
 pub mod Null
+pub mod Places
+pub mod PlaceSamples
 pub mod Literals
 pub mod LiteralSamples
 pub mod Numbers

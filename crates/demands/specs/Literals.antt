@@ -14,7 +14,7 @@ use Rattle.plain.specs.Blocks.{Has}
 use Rattle.plain.specs.Rules.{Placed}
 use Rattle.plain.specs.Areas.{mapRules}
 use Rattle.plain.specs.Reading.{Reading, nothing, block, damaged}
-use Rattle.plain.specs.Call.{Call, clear, begin, record-written, record-literal, free, written, ask, valid, valid-write, valid-read, initialised, next, audit, answer}
+use Rattle.plain.specs.Call.{Call, clear, begin, record-written, record-literal, free, written, ask, valid, valid-write, valid-read, initialised, next, audit, place, answer}
 use Rattle.plain.specs.PlainList.{plainStep}
 use Rattle.shadows.specs.Shadows.{Shadows, lengthsFit, image, Place, heap, primary, secondary, byteAt}
 use Rattle.monitor_base.specs.Calls.{call}
@@ -85,6 +85,7 @@ endsBlock x (valid w a n from) = false
 endsBlock x (initialised a n) = false
 endsBlock x (next a) = false
 endsBlock x audit = false
+endsBlock x (place l k) = false
 
 -- on every image no call but these ends a literal or alters a byte of it: it stays on the list, marks included, and each byte of its place, primary
 -- and secondary, is as before

@@ -11,12 +11,13 @@ use Rattle.map.specs.Map.{goodMap}
 use Rattle.plain.specs.declared.Beginning.the-variants.{Unwritten, Written, Literal}
 use Rattle.plain.specs.Areas.{segments}
 use Rattle.plain.specs.Reading.{Reading}
-use Rattle.plain.specs.Call.{Call, clear, begin, free, written, ask, valid, initialised, next, audit, Refusal}
+use Rattle.plain.specs.Call.{Call, clear, begin, free, written, ask, valid, initialised, next, audit, place, Refusal}
 use Rattle.plain.specs.ShadowCalls.{isDamaged, isBlock, isFirst, inOne, isLiteral, isNone}
 use Rattle.shadows.specs.Shadows.{Shadows, lengthsFit, shadowOps}
 use Rattle.demands.specs.Addresses.{inHeap, outside, endOfAreas, readingAt}
+use Rattle.demands.specs.Gaps.{heapSegments, gapSize, isLooked}
 
--- 3, "length or n is 0": record, written, valid, initialised
+-- 3, "length or n is 0": record, written, valid, initialised; S-6: "A length of 0 gets 3"
 abbrev pub isEmpty : Call → Bool
 isEmpty clear = false
 isEmpty (begin h b l) = eqb l 0
@@ -27,6 +28,7 @@ isEmpty (valid w a n from) = eqb n 0
 isEmpty (initialised a n) = eqb n 0
 isEmpty (next a) = false
 isEmpty audit = false
+isEmpty (place l k) = eqb l 0
 
 -- the block fits the area of its base. "A heap header fits when base ≥ heap start + 8"
 abbrev pub fitsArea : Map → (base length : ℕ) → Bool
@@ -49,6 +51,7 @@ isMisplaced m (valid w a n from) = false
 isMisplaced m (initialised a n) = false
 isMisplaced m (next a) = false
 isMisplaced m audit = false
+isMisplaced m (place l k) = false
 
 -- 5, "heap base is no multiple of 8": record
 abbrev pub isUnaligned : Map → Call → Bool
@@ -61,6 +64,7 @@ isUnaligned m (valid w a n from) = false
 isUnaligned m (initialised a n) = false
 isUnaligned m (next a) = false
 isUnaligned m audit = false
+isUnaligned m (place l k) = false
 
 -- every byte of the place is zero: "header and segments; primary and secondary of the range"
 abbrev pub placeZero : Map → Shadows → (base length : ℕ) → Bool
@@ -79,6 +83,7 @@ isTaken m (valid w a n from) s = false
 isTaken m (initialised a n) s = false
 isTaken m (next a) s = false
 isTaken m audit s = false
+isTaken m (place l k) s = false
 
 -- of the n addresses from a on one is damaged, and no reading below it is an answer of next: none has offset 0
 unfoldable pub damagedFirst : (ℕ → Reading) → (a n : ℕ) → Bool
@@ -91,7 +96,7 @@ noneBegins rd a zero = true
 noneBegins rd a (suc n) = not (isFirst (rd a)) && noneBegins rd (suc a) n
 
 -- 8, "a reading is damaged (for valid, either reading; for written and initialised, the first byte's; for next, one met before an answer);
--- for audit, no image": all but clear and record. S-2: free of address 0 takes no reading. What audit finds is no image: Demand2.antt, `AuditOnly`
+-- for audit, no image": all but clear, record and, as it takes no reading, place. S-2: free of address 0 takes no reading. What audit finds is no image: Demand2.antt, `AuditOnly`
 -- and `AuditRefuses`
 abbrev pub damageMet : Map → Call → Shadows → Bool
 damageMet m clear s = false
@@ -104,6 +109,7 @@ damageMet m (valid w a n from) s = isDamaged (readingAt m s a) || isDamaged (rea
 damageMet m (initialised a n) s = isDamaged (readingAt m s a)
 damageMet m (next a) s = damagedFirst (readingAt m s) a (endOfAreas m - a)
 damageMet m audit s = isNone (shadowOps m .audit s)
+damageMet m (place l k) s = false
 
 -- 7, "no block there; for free, base not a block's first byte; for written, range not in one block; for next, none follows": free, written,
 -- ask, next. S-2: not free of address 0
@@ -118,6 +124,7 @@ blockMissed m (valid w a n from) s = false
 blockMissed m (initialised a n) s = false
 blockMissed m (next a) s = noneBegins (readingAt m s) a (endOfAreas m - a)
 blockMissed m audit s = false
+blockMissed m (place l k) s = false
 
 -- 13, S-5: "written into a literal": written
 abbrev pub intoLiteral : Map → Call → Shadows → Bool
@@ -130,9 +137,28 @@ intoLiteral m (valid w a n from) s = false
 intoLiteral m (initialised a n) s = false
 intoLiteral m (next a) s = false
 intoLiteral m audit s = false
+intoLiteral m (place l k) s = false
+
+-- one of the first n segments is so
+unfoldable pub someSegment : (ℕ → Bool) → (n : ℕ) → Bool
+someSegment p zero = false
+someSegment p (suc n) = someSegment p n || p n
+
+-- 14, S-6: "exactly if no gap looked at fits": place. "A gap fits if it holds header and block"
+abbrev pub noRoom : Map → Call → Shadows → Bool
+noRoom m clear s = false
+noRoom m (begin h b l) s = false
+noRoom m (free x) s = false
+noRoom m (written a n) s = false
+noRoom m (ask a) s = false
+noRoom m (valid w a n from) s = false
+noRoom m (initialised a n) s = false
+noRoom m (next a) s = false
+noRoom m audit s = false
+noRoom m (place l k) s = not (someSegment (λ i. isLooked s k i && leb (8 + l) (gapSize m s i * 8)) (heapSegments m))
 
 -- the rows of the table, by their numbers; 7 "never where 8 holds"
 abbrev pub rows : Map → Call → Shadows → List Refusal
 rows m c s =
     (1, not (goodMap m)) ∷ (2, not (lengthsFit m s)) ∷ (3, isEmpty c) ∷ (4, isMisplaced m c) ∷ (5, isUnaligned m c) ∷ (6, isTaken m c s)
-    ∷ (7, blockMissed m c s && not (damageMet m c s)) ∷ (8, damageMet m c s) ∷ (13, intoLiteral m c s) ∷ []
+    ∷ (7, blockMissed m c s && not (damageMet m c s)) ∷ (8, damageMet m c s) ∷ (13, intoLiteral m c s) ∷ (14, noRoom m c s) ∷ []

@@ -1,17 +1,19 @@
 -- Demand 1, what an accepted call answers, on any shadows, images or not: every field, out of the readings (Addresses.antt) and the written bits
--- (Alters.antt) of addresses. Written from document 01, of its own beside the definitions by which a call answers. Proved in proofs/Told.antt.
+-- (Alters.antt) of addresses and, for place, the gaps (Gaps.antt). Written from document 01, of its own beside the definitions by which a call answers. Proved in proofs/Told.antt.
 -- Assumes nothing.
 use mathlib.Core.Path.{_≡_}
 use mathlib.Core.Bool.{Bool, true, false, cond, _&&_}
-use Prim.Native.Nat.{ℕ, zero, suc, _+_, _-_, _≤_, _<_}
+use mathlib.Core.Option.{Option, none, some}
+use Prim.Native.Nat.{ℕ, zero, suc, _+_, _*_, _-_, _≤_, _<_, min}
 use lib.Dec.{leb, eqb}
 use Rattle.map.specs.declared.Map.{Map}
 use Rattle.number.specs.Bits.{bit}
 use Rattle.plain.specs.Reading.{Reading, nothing, block, damaged}
-use Rattle.plain.specs.Call.{Call, clear, begin, free, written, ask, valid, initialised, next, audit, Answer, answer}
+use Rattle.plain.specs.Call.{Call, clear, begin, free, written, ask, valid, initialised, next, audit, place, Answer, answer}
 use Rattle.shadows.specs.Shadows.{Shadows}
 use Rattle.monitor_base.specs.Calls.{call}
 use Rattle.demands.specs.Addresses.{inHeap, inStack, endOfAreas, readingAt}
+use Rattle.demands.specs.Gaps.{heapSegments, gapsBelow, gapSize, isLooked, placeBytes}
 use Rattle.demands.specs.Alters.{writtenAt, literalAt}
 use Rattle.demands.specs.Demand1.{numberOf}
 use Rattle.demands.specs.Demand2.{asked, toldAt}
@@ -84,6 +86,24 @@ totalsTold m rd =
     answer 0 (sumOver (λ a. cond (inHeap m a) (beginsHere (rd a)) 0) 0 (endOfAreas m)) (sumOver (λ a. cond (inStack m a) (beginsHere (rd a)) 0) 0 (endOfAreas m))
     (sumOver (λ a. liveHere (rd a)) 0 (endOfAreas m)) (sumOver (λ a. writtenHere (rd a)) 0 (endOfAreas m))
 
+-- the lowest of the n segments from i on that is so
+unfoldable pub lowestFrom : (ℕ → Bool) → (i n : ℕ) → Option ℕ
+lowestFrom p i zero = none
+lowestFrom p i (suc n) = cond (p i) (some i) (lowestFrom p (suc i) n)
+
+-- S-6: base, gaps looked at and surplus of a gap of x segments that begins at segment i; where there is none, what is told of larger ones
+abbrev pub placeHere : Map → Shadows → (l k x : ℕ) → Option ℕ → (larger : Answer) → Answer
+placeHere m s l k x none larger = larger
+placeHere m s l k x (some i) larger =
+    answer 0 (m .«heap_start» + i * 8 + 8) (min k (gapsBelow s (heapSegments m))) (x * 8 - placeBytes l) 0
+
+-- "the smallest gap that fits, the lowest among equals": of the sizes x, x + 1 and so on, n of them, the first that holds header and block and that a gap
+-- looked at has, and the lowest such gap. Where there is none, place is refused
+unfoldable pub placeTold : Map → Shadows → (l k x n : ℕ) → Answer
+placeTold m s l k x zero = answer 0 0 0 0 0
+placeTold m s l k x (suc n) =
+    placeHere m s l k x (lowestFrom (λ i. leb (8 + l) (x * 8) && isLooked s k i && eqb (gapSize m s i) x) 0 (heapSegments m)) (placeTold m s l k (suc x) n)
+
 -- the number 0 and the fields, "in the order above", "all other fields zero"
 abbrev pub told : Map → Call → Shadows → Answer
 told m clear s = answer 0 0 0 0 0
@@ -96,6 +116,7 @@ told m (valid false a n from) s = answer 0 (readTold n (readingAt m s a) (readin
 told m (initialised a n) s = answer 0 (initialisedTold n (readingAt m s a) (eachOne (writtenAt m s) a n)) 0 0 0
 told m (next a) s = nextTold (readingAt m s) a (endOfAreas m - a)
 told m audit s = totalsTold m (readingAt m s)
+told m (place l k) s = placeTold m s l k 0 (suc (heapSegments m))
 
 -- every call, on any input, where it is accepted
 abbrev pub AnswersRead : Type 0

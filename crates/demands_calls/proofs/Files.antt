@@ -4,7 +4,7 @@ use Rattle.number.specs.Little.{bytesOf, byteOf, word}
 use Rattle.number.specs.Bits.{bitOf, withBit, ofBits, ones}
 use Rattle.number.specs.Parts.{tab, zeros, over}
 use Rattle.map.specs.Map.{goodArea, apart, goodMap}
-use Rattle.plain.specs.Areas.{segments}
+use Rattle.plain.specs.Areas.{segments, placeLength}
 use Rattle.plain.specs.Blocks.{total}
 use Rattle.plain.specs.Layer.{layer}
 use Rattle.plain.specs.Ops.{markRange, rangeMarked, readAny}
@@ -12,7 +12,7 @@ use Rattle.plain.specs.ShadowCalls.{climb}
 use Rattle.heap_layout.specs.Image.{cellByte, covers, own, heapByte}
 use Rattle.heap_layout.specs.Reading.{heapReading}
 use Rattle.heap_layout.specs.Walk.{agree, matches, marksAt, heapWalk}
-use Rattle.heap_layout.specs.Ops.{placeLength, heapVacant, heapStamp, heapErase, heapMark, heapMarked}
+use Rattle.heap_layout.specs.Ops.{heapVacant, heapStamp, heapErase, heapMark, heapMarked}
 use Rattle.stack_layout.specs.Code.{shortCode, pieceOf, codeOf, pieceByte, lowBits, primaryOf, secondaryOf, lengthFrom, shortLength, shortOffset}
 use Rattle.stack_layout.specs.Image.{primaryOwn, secondaryOwn}
 use Rattle.stack_layout.specs.Reading.{fitted, badPiece, longReading, codeReading, stackReading}

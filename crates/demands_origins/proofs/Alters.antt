@@ -16,7 +16,7 @@ use Rattle.plain.specs.Join.{writeOne}
 use Rattle.plain.specs.Reading.{Reading, nothing, block, damaged}
 use Rattle.plain.specs.declared.Beginning.{Beginning}
 use Rattle.plain.specs.declared.Beginning.the-variants.{Unwritten, Written, Literal}
-use Rattle.plain.specs.Call.{clear, begin, free, written, ask, valid, initialised, next, audit, Answer, yesNo, firstOf, unless}
+use Rattle.plain.specs.Call.{clear, begin, free, written, ask, valid, initialised, next, audit, place, Answer, yesNo, firstOf, unless}
 use Rattle.plain.specs.ShadowCalls.{isDamaged, isFirst, lengthOf}
 use Rattle.shadows.specs.Shadows.{lengthsFit, shadowOps}
 use Rattle.demands.specs.Addresses.{inHeap, outside, readingAt}
@@ -152,6 +152,7 @@ counter-left m c x n = stays (λ (y : State). y .counter) m c x (go c n)
     go (plain (initialised a k)) n = refl
     go (plain (next a)) n = refl
     go (plain audit) n = refl
+    go (plain (place l k)) n = refl
     go (point c a) n = refl
     go (copy t f) n = refl
     go (live c a) n = refl
@@ -170,6 +171,7 @@ cells-left m c x n = stays (λ (y : State). y .cells) m c x (go c n)
     go (plain (initialised a k)) n = refl
     go (plain (next a)) n = refl
     go (plain audit) n = refl
+    go (plain (place l k)) n = refl
     go (point c a) n = absurd (false≢true n)
     go (copy t f) n = absurd (false≢true n)
     go (live c a) n = refl
@@ -215,6 +217,7 @@ module _ (m : Map) where
   after-long (plain (initialised a n)) x f = (refl, refl)
   after-long (plain (next a)) x f = (refl, refl)
   after-long (plain audit) x f = (refl, refl)
+  after-long (plain (place l k)) x f = (refl, refl)
   after-long (point c a) x f = set-long (x .cells) c _ _ _
   after-long (copy t g) x f = set-long (x .cells) t _ _ _
   after-long (live c a) x f = (refl, refl)

@@ -8,7 +8,7 @@ use lib.Dec.{eqb}
 use Rattle.map.specs.declared.Map.{Map}
 use Rattle.plain.specs.Areas.{mapRules}
 use Rattle.plain.specs.Reading.{Reading, nothing, block, damaged}
-use Rattle.plain.specs.Call.{clear, begin, free, written, ask, valid, initialised, next, audit, number, firstOf}
+use Rattle.plain.specs.Call.{clear, begin, free, written, ask, valid, initialised, next, audit, place, number, firstOf}
 use Rattle.plain.specs.ShadowCalls.{inOne}
 use Rattle.plain.proofs.RunLaws.{unless-number}
 use Rattle.shadows.specs.Shadows.{lengthsFit, shadowOps}
@@ -71,6 +71,7 @@ later-rows m (plain (valid w a n from)) x = base.later-rows m (valid w a n from)
 later-rows m (plain (initialised a n)) x = base.later-rows m (initialised a n) (x .shadows)
 later-rows m (plain (next a)) x = base.later-rows m (next a) (x .shadows)
 later-rows m (plain audit) x = refl
+later-rows m (plain (place l k)) x = base.later-rows m (place l k) (x .shadows)
 later-rows m (point c a) x =
     rw (pointer-words m x c, outside-words m c, reading-words m (x .shadows) c, reading-words m (x .shadows) a)
 later-rows m (copy t f) x =

@@ -12,7 +12,7 @@ use Rattle.map.specs.declared.Map.{Map}
 use Rattle.map.specs.Map.{goodMap}
 use Rattle.plain.specs.Areas.{mapRules}
 use Rattle.plain.specs.Call as base
-use Rattle.plain.specs.Call.{clear, begin, free, written, ask, valid, initialised, next, audit, Answer, Refusal, firstOf, unless, allows, byRules}
+use Rattle.plain.specs.Call.{clear, begin, free, written, ask, valid, initialised, next, audit, place, Answer, Refusal, firstOf, unless, allows, byRules}
 use Rattle.plain.specs.ShadowCalls.{byShadows, shadowAnswer}
 use Rattle.shadows.specs.Shadows.{lengthsFit, shadowOps}
 use Rattle.monitor_base.specs.Calls as monitor
@@ -80,6 +80,7 @@ module _ (m : Map) (x : State) where
   rest (initialised a n) = other (later (initialised a n))
   rest (next a) = other (later (next a))
   rest audit = other (later audit)
+  rest (place l k) = other (later (place l k))
 
   by-conditions : (c : base.Call)
       → firstOf (refusals m (plain c) x)
@@ -97,7 +98,7 @@ module _ (m : Map) (x : State) where
             l,
             f,
             before.later-rows m c (x .shadows),
-            neither (pastTwo (rows m c (x .shadows))) (omega arith, (omega arith, (omega arith, (omega arith, (omega arith, (omega arith, (omega arith, tt))))))),
+            neither (pastTwo (rows m c (x .shadows))) (omega arith, (omega arith, (omega arith, (omega arith, (omega arith, (omega arith, (omega arith, (omega arith, tt)))))))),
           )
       go (is-true g) (is-true l) (is-true f) = rw (g, l, f) (rest c)
 

@@ -10,7 +10,7 @@ use Rattle.number.specs.Parts.{at, inPart}
 use Rattle.map.specs.declared.Map.{Map}
 use Rattle.plain.specs.declared.Beginning.{Beginning}
 use Rattle.plain.specs.Reading.{Reading, nothing, block, damaged}
-use Rattle.plain.specs.Call.{clear, begin, free, written, ask, valid, initialised, next, audit, answer}
+use Rattle.plain.specs.Call.{clear, begin, free, written, ask, valid, initialised, next, audit, place, answer}
 use Rattle.plain.specs.ShadowCalls.{lengthOf}
 use Rattle.demands.specs.Addresses.{inHeap, readingAt}
 use Rattle.origins_list.specs.Call.{Call, plain, point, copy, live}
@@ -94,7 +94,7 @@ isRecording (live c a) = false
 abbrev pub CounterLeft : Type 0
 CounterLeft = (m : Map) (c : Call) (x : State) → isRecording c ≡ false → (call m c x) .0 .counter ≡ x .counter
 
--- free of address 0, written, ask, valid, initialised, next, audit and kind 13 leave the cells; kinds 11 to 13 leave the three block shadows
+-- free of address 0, written, ask, valid, initialised, next, audit, place and kind 13 leave the cells; kinds 11 to 13 leave the three block shadows
 abbrev pub leavesCells : Call → Bool
 leavesCells (plain clear) = false
 leavesCells (plain (begin h b l)) = false
@@ -106,6 +106,7 @@ leavesCells (plain (valid w a n from)) = true
 leavesCells (plain (initialised a n)) = true
 leavesCells (plain (next a)) = true
 leavesCells (plain audit) = true
+leavesCells (plain (place l k)) = true
 leavesCells (point c a) = false
 leavesCells (copy t f) = false
 leavesCells (live c a) = true

@@ -11,11 +11,11 @@ use Rattle.map.specs.declared.Map.{Map}
 use Rattle.map.specs.Map.{goodMap}
 use Rattle.plain.specs.Reading.{Reading, nothing, block, damaged}
 use Rattle.plain.specs.Call as base
-use Rattle.plain.specs.Call.{clear, begin, free, written, ask, valid, initialised, next, audit, Refusal}
+use Rattle.plain.specs.Call.{clear, begin, free, written, ask, valid, initialised, next, audit, place, Refusal}
 use Rattle.plain.specs.ShadowCalls.{isDamaged}
 use Rattle.shadows.specs.Shadows.{lengthsFit}
 use Rattle.demands.specs.Addresses.{outside, readingAt}
-use Rattle.demands.specs.Numbers.{isEmpty, isMisplaced, isUnaligned, isTaken, blockMissed, damageMet, intoLiteral}
+use Rattle.demands.specs.Numbers.{isEmpty, isMisplaced, isUnaligned, isTaken, blockMissed, damageMet, intoLiteral, noRoom}
 use Rattle.origins_list.specs.Call.{Call, plain, point, copy, live}
 use Rattle.origins_base.specs.Calls.{State}
 
@@ -49,6 +49,7 @@ recorded (valid w a n from) = none
 recorded (initialised a n) = none
 recorded (next a) = none
 recorded audit = none
+recorded (place l k) = none
 
 -- it is no multiple of 4
 abbrev pub offFour : Option ℕ → Bool
@@ -126,9 +127,16 @@ writesLiteral m (point c a) x = false
 writesLiteral m (copy t f) x = false
 writesLiteral m (live c a) x = false
 
+-- 14, S-6: of place, which the library of this form does not offer
+abbrev pub noPlace : Map → Call → State → Bool
+noPlace m (plain c) x = noRoom m c (x .shadows)
+noPlace m (point c a) x = false
+noPlace m (copy t f) x = false
+noPlace m (live c a) x = false
+
 -- the rows of the table, by their numbers; 7 "never where 8 holds"
 abbrev pub rows : Map → Call → State → List Refusal
 rows m c x =
     (1, not (goodMap m)) ∷ (2, lengthsDiffer m x) ∷ (3, noBytes c) ∷ (4, misplaced m c) ∷ (5, baseUnaligned m c) ∷ (6, placeTaken m c x)
     ∷ (7, noBlock m c x && not (damageRead m c x)) ∷ (8, damageRead m c x) ∷ (11, noPointer m c x) ∷ (12, noOrigin c x)
-    ∷ (13, writesLiteral m c x) ∷ []
+    ∷ (13, writesLiteral m c x) ∷ (14, noPlace m c x) ∷ []

@@ -11,10 +11,10 @@ use Rattle.number.specs.Parts.{over}
 use Rattle.number.proofs.PartLaws.{over-next, over-ext}
 use Rattle.plain.specs.declared.Beginning.{Beginning}
 use Rattle.plain.specs.Block.{startsWritten, begun}
-use Rattle.plain.specs.Areas.{segments}
+use Rattle.plain.specs.Areas.{segments, placeLength}
 use Rattle.plain.specs.Layer.{layer}
 use Rattle.heap_layout.specs.Image.{covers, own, heapByte}
-use Rattle.heap_layout.specs.Ops.{placeLength, heapStamp}
+use Rattle.heap_layout.specs.Ops.{heapStamp}
 use Rattle.heap_laws.specs.Pair.{pairByte}
 use Rattle.heap_laws.proofs.PairLaws.{cell-header, cell-segment}
 

@@ -28,6 +28,7 @@ use Rattle.heap_layout.proofs.ReadingLaws.{reading-told}
 use Rattle.heap_layout.proofs.ReadImage.{read-image}
 use Rattle.heap_layout.proofs.StampLaws.{at-image, image-none, stamp-image, erase-image, vacant-image}
 use Rattle.heap_layout.proofs.MarkLaws.{mark-image}
+use Rattle.heap_layout.proofs.GapLaws.{gaps-image}
 use Rattle.heap_layout.proofs.WalkSound.{walk-sound}
 use Rattle.heap_layout.proofs.WalkComplete.{walk-image}
 
@@ -62,6 +63,7 @@ heap-images W G size wide two small whole =
       image-mark = λ bs P a b i e. mark-image z bs P a b e (omega (arith, in-facts 0 (0 + size) a i));
       image-marked = λ bs P a b i e. marked z bs P a b e;
       image-audit = λ bs P. audits z bs P;
+      image-gaps = λ bs P. gaps-image z bs P;
     }
   where
     z : Sizes W G size

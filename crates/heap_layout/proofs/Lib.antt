@@ -4,6 +4,7 @@ pub mod ReadingLaws
 pub mod LooksLaws
 pub mod ReadImage
 pub mod StampLaws
+pub mod GapLaws
 pub mod MarkLaws
 pub mod BitsLaws
 pub mod WalkLaws

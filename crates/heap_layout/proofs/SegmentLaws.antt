@@ -10,12 +10,11 @@ use Rattle.number.specs.Parts.{inPart}
 use Rattle.number.proofs.TestLaws.{same-test, in-true, in-facts}
 use Rattle.plain.specs.Block.{Block, len, contains}
 use Rattle.plain.specs.Rules.{meets}
-use Rattle.plain.specs.Areas.{segments, heapRules}
+use Rattle.plain.specs.Areas.{segments, placeLength, heapRules}
 use Rattle.plain.proofs.AreaLaws.{Span, segments-up, segments-down, heap-span, span-heap}
 use Rattle.plain.proofs.BlockLaws.{contains-true}
 use Rattle.plain.proofs.LayerLaws.{Listed, InFoot}
 use Rattle.heap_layout.specs.Image.{covers}
-use Rattle.heap_layout.specs.Ops.{placeLength}
 
 -- what the layout asks of its numbers: the width, the segment, the area's size
 pub record Sizes (W G size : ℕ) : Type 0 where

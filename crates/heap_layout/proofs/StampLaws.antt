@@ -15,13 +15,13 @@ use Rattle.number.proofs.PartLaws.{length-tab, at-whole, tab-zero, over-tab, ze
 use Rattle.plain.specs.Block.{Block, len}
 use Rattle.plain.specs.Blocks.{find, found, any, insert, remove, Has}
 use Rattle.plain.specs.Rules.{Rules, meets, Placed, Sound}
-use Rattle.plain.specs.Areas.{segments, heapRules}
+use Rattle.plain.specs.Areas.{segments, placeLength, heapRules}
 use Rattle.plain.specs.Layer.{layer}
 use Rattle.plain.proofs.AreaLaws.{heap-sound, heap-ranged}
 use Rattle.plain.proofs.ListLaws.{find-has}
 use Rattle.plain.proofs.LayerLaws.{Listed, layer-none, layer-apart, layer-insert, layer-remove}
 use Rattle.heap_layout.specs.Image.{free, cellByte, covers, own, segmentOf, heapByte, heapImage}
-use Rattle.heap_layout.specs.Ops.{placeLength, heapVacant, heapStamp, heapErase}
+use Rattle.heap_layout.specs.Ops.{heapVacant, heapStamp, heapErase}
 use Rattle.heap_layout.proofs.SegmentLaws.{Sizes, some-segment, aligned-eq, segments-lt, Stands, listed-stands, heap-foot, covers-byte, meets-in}
 use Rattle.heap_layout.proofs.CellLaws.{Part, at-header, at-segment, part, Shows, free-number, free-length, header-length, segment-number}
 use Rattle.heap_layout.proofs.ReadImage.{has-stands, header-shows, segment-shows}
@@ -100,7 +100,7 @@ module _ {W G size : ℕ} (z : Sizes W G size) where
     -- ---- room
 
     -- a segment of a block's place is not all zeros
-    own-zero : {c : Block} (s : ℕ) → Has c bs → (t : Stands G size (c .base) (len c)) → Part (t .head) (segments G (len c)) s
+    pub own-zero : {c : Block} (s : ℕ) → Has c bs → (t : Stands G size (c .base) (len c)) → Part (t .head) (segments G (len c)) s
         → Shows W G (heapByte W G bs) s free → ⊥
     own-zero {c} s h t (at-header e) zs =
         omega (

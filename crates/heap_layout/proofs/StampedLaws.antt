@@ -20,7 +20,7 @@ use Rattle.number.proofs.PartLaws.{length-over, over-in, set-over, over-ext}
 use Rattle.plain.specs.Block.{Block, len, contains, isWritten, markBlock}
 use Rattle.plain.specs.Blocks.{find, markOne}
 use Rattle.plain.specs.Rules.{Placed}
-use Rattle.plain.specs.Areas.{segments, heapRules}
+use Rattle.plain.specs.Areas.{segments, placeLength, heapRules}
 use Rattle.plain.specs.Reading.{says}
 use Rattle.plain.specs.ShadowCalls.{inOne}
 use Rattle.plain.proofs.AreaLaws.{heap-plain, heap-ranged}
@@ -29,7 +29,7 @@ use Rattle.plain.proofs.StampedLaws as plain
 use Rattle.plain.proofs.StampedLaws.{Stamped}
 use Rattle.heap_layout.specs.Image.{covers, heapByte}
 use Rattle.heap_layout.specs.Reading.{bitsPlace, heapReading}
-use Rattle.heap_layout.specs.Ops.{placeLength, heapStamp, heapMark, heapOps}
+use Rattle.heap_layout.specs.Ops.{heapStamp, heapMark, heapOps}
 use Rattle.heap_layout.proofs.SegmentLaws.{Sizes, some-segment, Stands, stands, aligned-eq, segments-gt, covers-byte, covers-holds, segment-in}
 use Rattle.heap_layout.proofs.ReadingLaws.{read-some, reading-told, reading-plain}
 use Rattle.heap_layout.proofs.ReadImage.{read-image}

@@ -7,16 +7,13 @@ use lib.Dec.{eqb}
 use Rattle.number.specs.Bits.{withBit}
 use Rattle.number.specs.Parts.{at, zeros, over}
 use Rattle.plain.specs.Block.{Block, len}
-use Rattle.plain.specs.Areas.{segments, heapRules}
+use Rattle.plain.specs.Gaps.{Gap, gapsOf}
+use Rattle.plain.specs.Areas.{placeLength, heapRules}
 use Rattle.plain.specs.Ops.{Ops}
 use Rattle.plain.specs.Found.{totals}
 use Rattle.heap_layout.specs.Image.{heapByte}
 use Rattle.heap_layout.specs.Reading.{bitsPlace, writtenBit, heapReading}
 use Rattle.heap_layout.specs.Walk.{heapWalk}
-
--- the place of a block of length l: its header, which begins G before the base, and its whole segments
-unfoldable pub placeLength : (G l : ℕ) → ℕ
-placeLength G l = G + segments G l * G
 
 module _ (W G : ℕ) where
   unfoldable pub heapVacant : List ℕ → (b l : ℕ) → Bool
@@ -34,6 +31,10 @@ module _ (W G : ℕ) where
   unfoldable pub heapMarked : List ℕ → (p : ℕ) → Bool
   heapMarked h p = eqb (writtenBit W G (at h) p) 1
 
+  -- segment i is free where its bytes are all zero
+  unfoldable pub heapGaps : (size : ℕ) → List ℕ → List Gap
+  heapGaps size h = gapsOf G 0 (λ i. zeros (at h) (i * G) G) (size / G)
+
   abbrev pub heapOps : (size : ℕ) → Ops (List ℕ)
   heapOps size =
       record {
@@ -45,4 +46,5 @@ module _ (W G : ℕ) where
         mark = heapMark;
         marked = heapMarked;
         audit = λ h. totals (heapRules G 0 size) (heapWalk W G size (at h) (size / G) 0 0 0);
+        gaps = heapGaps size;
       }

@@ -3,7 +3,8 @@ use map::Position;
 ghost use mathlib.Core.Path.{_≡_};
 ghost use Prim.Native.Nat.{_+_, _%_, _≤_, _<_};
 ghost use lib.ListN.{length};
-ghost use Rattle.heap_layout.specs.Ops.{placeLength, heapVacant, heapErase};
+ghost use Rattle.plain.specs.Areas.{placeLength};
+ghost use Rattle.heap_layout.specs.Ops.{heapVacant, heapErase};
 
 // How many shadow bytes a block takes: its header and its whole segments.
 fn place_length(len: u32) -> usize

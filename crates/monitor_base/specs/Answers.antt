@@ -7,6 +7,8 @@ use Rattle.shadows.specs.Shadows.{Shadows}
 use Rattle.monitor_base.specs.declared.Answer.{Answer}
 use Rattle.monitor_base.specs.declared.Call.{Call}
 use Rattle.monitor_base.specs.declared.Call.the-variants as case
+use Rattle.monitor_base.specs.declared.PlainCall.{PlainCall}
+use Rattle.monitor_base.specs.declared.PlainCall.the-variants as any
 use Rattle.monitor_base.specs.declared.Query.{Query}
 use Rattle.monitor_base.specs.declared.Query.the-variants.{Ask, Valid, Initialised, Next, Audit}
 use Rattle.monitor_base.specs.declared.Update.{Update}
@@ -36,3 +38,7 @@ updateOf (Written a n) = plain.written (a .0) n
 abbrev pub callOf : Call → plain.Call
 callOf (case.Query q) = queryOf q
 callOf (case.Update u) = updateOf u
+
+abbrev pub anyCallOf : PlainCall → plain.Call
+anyCallOf (any.Call c) = callOf c
+anyCallOf (any.Place l k) = plain.place l k

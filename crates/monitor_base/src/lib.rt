@@ -15,7 +15,7 @@ pub struct Answer {
     pub fourth: u32,
 }
 
-// The calls that only read.
+// The calls that only read. Place, which the plain form alone has, is no Query: see PlainCall.
 pub enum Query {
     Ask(Address),
     // May n bytes from the first address on be read, in the block of the second; where the flag is set, may they be written as well.
@@ -33,9 +33,16 @@ pub enum Update {
     Written(Address, u32),
 }
 
+// The calls that both forms have.
 pub enum Call {
     Query(Query),
     Update(Update),
+}
+
+// Any call of the plain form: place, of a length and a budget, has no kind and is the plain form's alone.
+pub enum PlainCall {
+    Call(Call),
+    Place(u32, u32),
 }
 
 // Where an address lies: its position in the area's shadow.

@@ -185,3 +185,22 @@ pub extern "C" fn block_monitor_audit(
         fields,
     )
 }
+
+#[no_mangle]
+pub extern "C" fn block_monitor_place(
+    map: &[u32; 4],
+    heap: &[u8],
+    primary: &[u8],
+    secondary: &[u8],
+    length: u32,
+    budget: u32,
+    fields: &mut [u32; 4],
+) -> u32
+    ensures { λ k. ⌜ left k (now (fields .exit)) (now (heap .entry)) (now (primary .entry)) (now (secondary .entry))
+        ≡ call (mapOf (now (map .entry))) (plain.place length budget) (now (heap .entry), (now (primary .entry), now (secondary .entry))) ⌝ }
+{
+    told(
+        monitor_c_lent::place(map, heap, primary, secondary, length, budget),
+        fields,
+    )
+}

@@ -1,4 +1,4 @@
-// What the exported functions share: a map and the answer fields are lent as arrays of four numbers. And the one call whose addresses could be
+// What the exported functions share: a map and the answer fields are lent as arrays of four numbers. And the two calls whose arguments could be
 // taken for each other.
 ghost use mathlib.Core.Path.{_≡_};
 ghost use lib.ListN.{length};
@@ -71,4 +71,19 @@ pub fn valid(
         Address(from),
         write,
     )
+}
+
+// A base for a block of this length, in one of the first `budget` gaps.
+pub fn place(
+    map: &[u32; 4],
+    heap: &[u8],
+    primary: &[u8],
+    secondary: &[u8],
+    length: u32,
+    budget: u32,
+) -> Answer
+    ensures { λ r. ⌜ outcome r (now (heap .entry)) (now (primary .entry)) (now (secondary .entry))
+        ≡ call (mapOf (now (map .entry))) (plain.place length budget) (now (heap .entry), (now (primary .entry), now (secondary .entry))) ⌝ }
+{
+    monitor_place::place(map_of(map), heap, primary, secondary, length, budget)
 }

@@ -6,7 +6,7 @@ use Rattle.map.specs.declared.Map.{Map}
 use Rattle.map.specs.Map.{goodMap}
 use Rattle.plain.specs.Areas.{mapRules}
 use Rattle.plain.specs.Call as base
-use Rattle.plain.specs.Call.{clear, begin, free, written, ask, valid, initialised, next, audit, Answer, refusal, firstOf, unless}
+use Rattle.plain.specs.Call.{clear, begin, free, written, ask, valid, initialised, next, audit, place, Answer, refusal, firstOf, unless}
 use Rattle.plain.specs.ShadowCalls.{shadowsAfter, shadowAnswer}
 use Rattle.shadows.specs.Shadows.{Shadows, shadowOps}
 use Rattle.monitor_base.specs.Calls as plainForm
@@ -55,6 +55,7 @@ module _ (m : Map) (s : Shadows) (y : Cells) (k : ℕ) where
     call-other (initialised a i) n = rw fit
     call-other (next a) n = rw fit
     call-other audit n = rw fit
+    call-other (place l k) n = rw fit
 
     module _ (c : base.Call) (n : takesOrigin (plain c) ≡ false) (stay : cellsOf c ≡ y) where
       -- the shadows and the answer of a call of the plain form, with the cells and the counter as they were

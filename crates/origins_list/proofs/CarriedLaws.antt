@@ -15,7 +15,7 @@ use Rattle.plain.specs.Block.{holds, hasBase}
 use Rattle.plain.specs.Blocks.{find, any}
 use Rattle.plain.specs.Rules.{Rules, Sound}
 use Rattle.plain.specs.Call as base
-use Rattle.plain.specs.Call.{clear, begin, free, written, ask, valid, initialised, next, audit, answer, number, yesNo, Refusal, firstOf, unless}
+use Rattle.plain.specs.Call.{clear, begin, free, written, ask, valid, initialised, next, audit, place, answer, number, yesNo, Refusal, firstOf, unless}
 use Rattle.plain.proofs.RunLaws.{unless-number}
 use Rattle.origins_list.specs.Call.{Call, plain, point, copy, live}
 use Rattle.origins_list.specs.Cells.{Small}
@@ -56,6 +56,7 @@ listed-8 R (plain (valid w a n from)) x = (omega arith, tt)
 listed-8 R (plain (initialised a n)) x = (omega arith, tt)
 listed-8 R (plain (next a)) x = (omega arith, tt)
 listed-8 R (plain audit) x = tt
+listed-8 R (plain (place l k)) x = (omega arith, (omega arith, tt))
 listed-8 R (point c a) x = (omega arith, (omega arith, tt))
 listed-8 R (copy t f) x = (omega arith, (omega arith, tt))
 listed-8 R (live c a) x = (omega arith, (omega arith, tt))

@@ -19,7 +19,7 @@ use Rattle.plain.specs.Reading.{Reading, nothing, block, says, lookup}
 use Rattle.plain.specs.Ops.{Ops, readAny}
 use Rattle.plain.specs.Images.{Images}
 use Rattle.plain.specs.Call as base
-use Rattle.plain.specs.Call.{clear, begin, free, written, ask, valid, initialised, next, audit, Answer, number, refusal, done, yesNo, firstOf, unless, allows, byRules}
+use Rattle.plain.specs.Call.{clear, begin, free, written, ask, valid, initialised, next, audit, place, Answer, number, refusal, done, yesNo, firstOf, unless, allows, byRules}
 use Rattle.plain.specs.PlainList.{byList, listAfter, listAnswer, plainStep}
 use Rattle.plain.specs.ShadowCalls.{isDamaged, inOne, lengthOf, byShadows, shadowsAfter, shadowAnswer, shadowStep}
 use Rattle.plain.proofs.FindLaws.{find-facts}
@@ -180,6 +180,7 @@ module _ {S C : Type 0} (R : Rules) (G : Sound R) (O : Ops S) (image : List Bloc
     plain-same (initialised a n) = plainly (initialised a n) refl refl (λ z. refl)
     plain-same (next a) = plainly (next a) refl refl (λ z. refl)
     plain-same audit = plainly audit refl refl (λ z. refl)
+    plain-same (place l k) = plainly (place l k) refl refl (λ z. refl)
 
     -- ---- kinds 11 to 13
 

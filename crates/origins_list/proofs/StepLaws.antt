@@ -14,7 +14,7 @@ use Rattle.plain.specs.Block.{Block, len, startsLiteral, contains, holds, hasBa
 use Rattle.plain.specs.Blocks.{find, any, remove, markAll}
 use Rattle.plain.specs.Rules.{Rules, Placed, Sound, meets}
 use Rattle.plain.specs.Call as base
-use Rattle.plain.specs.Call.{clear, begin, free, written, ask, valid, initialised, next, audit, number, firstOf, unless, allows}
+use Rattle.plain.specs.Call.{clear, begin, free, written, ask, valid, initialised, next, audit, place, number, firstOf, unless, allows}
 use Rattle.plain.proofs.LayerLaws.{ownOf}
 use Rattle.plain.proofs.ListLaws.{find-has}
 use Rattle.plain.proofs.KeptLaws.{remove-placed, marks-placed}
@@ -191,6 +191,7 @@ module _ (R : Rules) (G : Sound R) where
     after-plain (initialised a n) e = asked (initialised a n) refl
     after-plain (next a) e = asked (next a) refl
     after-plain audit e = asked audit refl
+    after-plain (place l k) e = asked (place l k) refl
 
     -- a pointer is set in a cell in which one can stand
     pointed : (c : Call) (d v : ℕ) → canPoint x d ≡ true → v < x .counter

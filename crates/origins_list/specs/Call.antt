@@ -4,11 +4,11 @@ use mathlib.Core.List.{List, [], _∷_}
 use Prim.Native.Nat.{ℕ, zero, suc, _%_}
 use lib.Dec.{leb, eqb}
 use Rattle.plain.specs.Call as base
-use Rattle.plain.specs.Call.{clear, begin, free, written, ask, valid, initialised, next, audit, Refusal}
+use Rattle.plain.specs.Call.{clear, begin, free, written, ask, valid, initialised, next, audit, place, Refusal}
 
 -- arguments are any numbers
 pub data Call : Type 0 where
-  -- a call of the plain form
+  -- a call of the plain form. What place would be is said as of every other; the library of this form does not offer it
   plain : base.Call → Call
   -- kind 11: the pointer in a cell is set to the block that holds the address, or to none
   point : (cell address : ℕ) → Call
@@ -44,6 +44,7 @@ roleOf (valid w a n from) = leaves
 roleOf (initialised a n) = leaves
 roleOf (next a) = leaves
 roleOf audit = leaves
+roleOf (place l k) = leaves
 
 -- "every recorded base is a multiple of 4, else 5"
 abbrev pub unaligned : Role → List Refusal

@@ -1,11 +1,23 @@
 -- An accepted call has number 0, on shadows of whatever layout. Assumes nothing.
 use mathlib.Core.Path.{_≡_, refl}
+use mathlib.Core.List.{List}
 use mathlib.Core.Option.{Option, none, some}
+use Prim.Native.Nat.{ℕ}
+use lib.ListN.{length}
 use Rattle.plain.specs.Rules.{Rules}
 use Rattle.plain.specs.Reading.{Reading, nothing, block, damaged, Tally, tally}
+use Rattle.plain.specs.Gaps.{Gap}
 use Rattle.plain.specs.Ops.{Ops}
-use Rattle.plain.specs.Call.{Call, clear, begin, free, written, ask, valid, initialised, next, audit, number}
+use Rattle.plain.specs.Call.{Call, clear, begin, free, written, ask, valid, initialised, next, audit, place, number}
+use Rattle.plain.specs.Placing.{lookedAt, chosen, placeOf, placeAnswer}
 use Rattle.plain.specs.ShadowCalls.{askAnswer, nextAnswer, auditAnswer, reading, search, shadowAnswer}
+
+pub place-0 : (G l k : ℕ) (gaps : List Gap) → number (placeAnswer G l k gaps) ≡ 0
+place-0 G l k gaps = go (chosen G l (lookedAt k gaps))
+  where
+    go : (o : Option Gap) → number (placeOf G l (length (lookedAt k gaps)) o) ≡ 0
+    go none = refl
+    go (some g) = refl
 
 pub accepted-0 : {S : Type 0} (R : Rules) (O : Ops S) (c : Call) (s : S) → number (shadowAnswer R O c s) ≡ 0
 accepted-0 R O clear s = refl
@@ -31,3 +43,4 @@ accepted-0 R O audit s = go (O .audit s)
     go : (t : Option Tally) → number (auditAnswer t) ≡ 0
     go none = refl
     go (some (tally h k l w)) = refl
+accepted-0 R O (place l k) s = place-0 (R .segment) l k (O .gaps s)

@@ -1,6 +1,8 @@
 -- The rules of a heap of segments of any size and of a stack: sound, the same at every start, and within their range. Assumes nothing.
 use mathlib.Core.Path.{_≡_, refl, sym, ap, _∙_}
-use mathlib.Core.Bool.{true, false, _&&_}
+use mathlib.Core.Bool.{Bool, true, false, cond, not, _&&_}
+use mathlib.Core.List.{List, [], _∷_}
+use mathlib.Core.Option.{some}
 use Prim.Native.Nat.{ℕ, _+_, _*_, _-_, _/_, _%_, _≤_, _<_}
 use native.Mathlib.Omega.{arith}
 use native.Mathlib.Nat.{div-add-mod', mod-lt, mod-add-mod, zero-add, mul-le-mul-right, lt-of-mul-lt-mul-right}
@@ -9,12 +11,14 @@ use borrow.Author.Tests.{le-leb, eq-eqb, leb-true, eqb-true}
 use Rattle.map.specs.Map.{within}
 use Rattle.map.proofs.MapLaws.{within-true, true-within}
 use Rattle.number.proofs.TestLaws.{Test, is-true, is-false, test, and-true, not-both, false-of}
-use Rattle.plain.specs.Block.{Block}
-use Rattle.plain.specs.Rules.{Rules, Proper, Sound}
-use Rattle.plain.specs.Areas.{segments, heapRules, stackRules}
-use Rattle.plain.specs.Lift.{Shifted}
+use Rattle.plain.specs.Block.{Block, len}
+use Rattle.plain.specs.Blocks.{find, found, any}
+use Rattle.plain.specs.Rules.{Rules, Proper, Placed, Sound}
+use Rattle.plain.specs.Areas.{segments, takes, heapRules, stackRules}
+use Rattle.plain.specs.Lift.{Shifted, down, downs}
 use Rattle.plain.specs.Join.{joinRules, Separate}
-use Rattle.plain.proofs.LiftLaws.{Unshifted}
+use Rattle.plain.proofs.LiftLaws.{Unshifted, less-down}
+use Rattle.plain.proofs.GapLaws.{gaps-same, gaps-up}
 
 -- an area lies in its range, footprints too
 pub record Ranged (R : Rules) (s z : ℕ) : Type 0 where
@@ -98,6 +102,7 @@ stack-shifted s z =
       s-low = λ b l f. let h = stack-span s z b l f in omega arith;
       s-high = λ b l f. let h = stack-span s z b l f in omega arith;
       s-heap = λ a. refl;
+      s-gaps = λ bs Q. refl;
     }
 
 pub stack-unshifted : (s z : ℕ) → Unshifted s (stackRules s z) (stackRules 0 z)
@@ -151,6 +156,29 @@ heap-sound G g s z =
       in-top = λ a i. within-true s z a i .1;
     }
 
+module _ (G s z : ℕ) where
+  -- a segment that a block's place holds a byte of, by addresses and by positions
+  takes-down : (i : ℕ) (b : Block) → heapRules G s z .fits (b .base) (len b) ≡ true → takes G (s + i * G) b ≡ takes G (0 + i * G) (down s b)
+  unfolding takes
+  takes-down i b f =
+      let h = heap-span G s z (b .base) (len b) f in
+      rw (
+        less-down s (b .base - G) (s + i * G + G) (b .base - s - G) (0 + i * G + G) (omega arith) (omega arith),
+        less-down s (s + i * G) (b .base + segments G (len b) * G) (0 + i * G) (b .base - s + segments G (len b) * G) (omega arith) (omega arith),
+      )
+
+  takes-any : (i : ℕ) (bs : List Block) (from : ℕ) → Placed (heapRules G s z) from bs
+      → any (takes G (s + i * G)) bs ≡ any (takes G (0 + i * G)) (downs s bs)
+  unfolding find
+  takes-any i [] from Q = refl
+  takes-any i (c ∷ cs) from Q =
+      rw (takes-down i c (Q .fits)) (go (takes G (0 + i * G) (down s c)) (takes-any i cs (heapRules G s z .high (c .base) (len c)) (Q .later)))
+    where
+      go : (t : Bool) → any (takes G (s + i * G)) cs ≡ any (takes G (0 + i * G)) (downs s cs)
+          → found (cond t (some c) (find (takes G (s + i * G)) cs)) ≡ found (cond t (some (down s c)) (find (takes G (0 + i * G)) (downs s cs)))
+      go true e = refl
+      go false e = e
+
 module _ (G s z : ℕ) (es : s % G ≡ 0) where
   -- a heap's addresses are the positions of a heap that starts at 0
   pub heap-shifted : Shifted s (heapRules G s z) (heapRules G 0 z)
@@ -165,6 +193,9 @@ module _ (G s z : ℕ) (es : s % G ≡ 0) where
         s-low = λ b l f. let h = heap-span G s z b l f in omega arith;
         s-high = λ b l f. let h = heap-span G s z b l f in omega arith;
         s-heap = λ a. refl;
+        s-gaps = λ bs Q.
+            gaps-same G s _ _ (z / G) 0 0 (λ i x y. ap not (takes-any G s z i bs 0 Q))
+            ∙ sym (gaps-up G s (λ i. not (any (takes G (0 + i * G)) (downs s bs))) (z / G) 0 0);
       }
 
   pub heap-unshifted : Unshifted s (heapRules G s z) (heapRules G 0 z)

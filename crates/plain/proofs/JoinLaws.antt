@@ -194,6 +194,10 @@ module _ (A B : Rules) (GA : Sound A) (GB : Sound B) (Z : Separate A B) where
           rw (IA .image-audit (blocksOf A bs) (only-placed R A join-sound part-a bs 0 Q), IB .image-audit (blocksOf B bs) (only-placed R B join-sound part-b bs 0 Q))
           (tally-same bs Q)
 
+      gaps : O .gaps (J bs) ≡ R .gaps bs
+      gaps =
+          rw (IA .image-gaps (blocksOf A bs) (only-placed R A join-sound part-a bs 0 Q), IB .image-gaps (blocksOf B bs) (only-placed R B join-sound part-b bs 0 Q))
+
     pub join-images : Images (joinRules A B) (joinOps A OA OB) (joinImage A B imA imB)
     unfolding only
     join-images =
@@ -206,6 +210,7 @@ module _ (A B : Rules) (GA : Sound A) (GB : Sound B) (Z : Separate A B) where
           image-mark = λ bs Q a b i e. mark bs Q a b (test (A .inside a)) i e;
           image-marked = λ bs Q a b i e. marked bs Q a b (test (A .inside a)) i e;
           image-audit = λ bs Q. audit bs Q;
+          image-gaps = λ bs Q. gaps bs Q;
         }
 
   -- ---- the other way: what an audit accepts

@@ -1,6 +1,8 @@
 pub mod BlockLaws
 pub mod FindLaws
 pub mod ListLaws
+pub mod GapLaws
+pub mod BestLaws
 pub mod HasLaws
 pub mod KeptLaws
 pub mod OnlyLaws

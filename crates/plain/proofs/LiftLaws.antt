@@ -16,7 +16,7 @@ use Rattle.plain.specs.Rules.{Rules, meets, Placed, Sound}
 use Rattle.plain.specs.Reading.{tallyOf, says, lookup}
 use Rattle.plain.specs.Ops.{Ops}
 use Rattle.plain.specs.Images.{Images, Scanned}
-use Rattle.plain.specs.Lift.{Shifted, readingUp, liftOps, down, downs}
+use Rattle.plain.specs.Lift.{Shifted, readingUp, liftOps, down, downs, gapUp}
 use Rattle.plain.proofs.BlockLaws.{contains-true, true-contains}
 use Rattle.plain.proofs.FindLaws.{find-facts}
 use Rattle.plain.proofs.KeptLaws.{weaken}
@@ -43,7 +43,7 @@ unfolding total
 total-down s v w f [] = refl
 total-down s v w f (c ∷ cs) = rw (f c, total-down s v w f cs)
 
-less-down : (s x y x′ y′ : ℕ) → x ≡ s + x′ → y ≡ s + y′ → ltb x y ≡ ltb x′ y′
+pub less-down : (s x y x′ y′ : ℕ) → x ≡ s + x′ → y ≡ s + y′ → ltb x y ≡ ltb x′ y′
 less-down s x y x′ y′ p q =
     same-test (ltb x y) (ltb x′ y′) (λ e. let u = ltb-true x y e in lt-ltb x′ y′ (omega arith)) (λ e. let u = ltb-true x′ y′ e in lt-ltb x y (omega arith))
 
@@ -199,6 +199,7 @@ module _ (s : ℕ) (A E : Rules) (G : Sound A) (H : Shifted s A E) where
             ∙ ap image (sym (mark-down a (H .s-inside a i .0) bs 0 Q));
         image-marked = marked O image I;
         image-audit = audit O image I;
+        image-gaps = λ bs Q. ap (map (gapUp s)) (I .image-gaps (downs s bs) (Q′ O image I bs Q)) ∙ sym (H .s-gaps bs Q);
       }
 
 -- ---- the other way: what an audit accepts

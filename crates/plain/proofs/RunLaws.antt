@@ -16,10 +16,11 @@ use Rattle.plain.specs.declared.Beginning.the-variants.{Unwritten, Writt
 use Rattle.plain.specs.Block.{Block, len, startsWritten, startsLiteral, begun, contains}
 use Rattle.plain.specs.Blocks.{find, any, insert}
 use Rattle.plain.specs.Rules.{Rules, Proper, Placed, Sound, meets}
-use Rattle.plain.specs.Call.{Call, clear, begin, free, written, ask, valid, initialised, next, audit, Answer, number, Refusal, firstOf, unless, allows, byRules}
+use Rattle.plain.specs.Call.{Call, clear, begin, free, written, ask, valid, initialised, next, audit, place, Answer, number, Refusal, firstOf, unless, allows, byRules}
 use Rattle.plain.specs.PlainList.{byList, listAfter, listAnswer, askOf, nextOf, plainStep}
 use Rattle.plain.specs.Run.{run}
 use Rattle.plain.proofs.KeptLaws.{insert-placed, remove-placed, marks-placed}
+use Rattle.plain.proofs.AnswerLaws.{place-0}
 
 -- ---- the placing rules hold after each call
 
@@ -68,6 +69,7 @@ module _ (R : Rules) (G : Sound R) where
   keep-after (initialised a n) bs P e = P
   keep-after (next a) bs P e = P
   keep-after audit bs P e = P
+  keep-after (place l k) bs P e = P
 
   pub keep : (c : Call) (bs : List Block) → Placed R 0 bs → Placed R 0 ((plainStep R c bs) .0)
   unfolding plainStep
@@ -101,6 +103,7 @@ listed-8 R (valid w a n from) bs = (omega arith, tt)
 listed-8 R (initialised a n) bs = (omega arith, tt)
 listed-8 R (next a) bs = (omega arith, tt)
 listed-8 R audit bs = tt
+listed-8 R (place l k) bs = (omega arith, (omega arith, tt))
 
 -- an accepted call has number 0
 pub accepted-0 : (R : Rules) (c : Call) (bs : List Block) → number (listAnswer R c bs) ≡ 0
@@ -121,6 +124,7 @@ accepted-0 R (next a) bs = go (find (λ b. leb a (b .base)) bs)
     go none = refl
     go (some b) = refl
 accepted-0 R audit bs = refl
+accepted-0 R (place l k) bs = place-0 (R .segment) l k (R .gaps bs)
 
 -- the number of an answer is the first that holds, where that of an accepted call is 0
 pub unless-number : {S : Type 0} (k : ℕ) (s : S) (r : S × Answer) → number (r .1) ≡ 0 → number ((unless k s r) .1) ≡ k

@@ -16,7 +16,8 @@ use Rattle.plain.specs.Rules.{Rules, Placed, Sound}
 use Rattle.plain.specs.Reading.{Reading, nothing, block, says, lookup}
 use Rattle.plain.specs.Ops.{Ops, markRange, rangeMarked, readAny}
 use Rattle.plain.specs.Images.{Images}
-use Rattle.plain.specs.Call.{Call, clear, begin, free, written, ask, valid, initialised, next, audit, Answer, done, yesNo, unless}
+use Rattle.plain.specs.Call.{Call, clear, begin, free, written, ask, valid, initialised, next, audit, place, Answer, done, yesNo, unless}
+use Rattle.plain.specs.Placing.{noneFits, placeAnswer}
 use Rattle.plain.specs.PlainList.{askOf, nextOf, plainStep}
 use Rattle.plain.specs.ShadowCalls.{isDamaged, isBlock, isFirst, inOne, isLiteral, sameBlock, lengthOf, stop, climb, askAnswer, nextAnswer, shadowStep}
 use Rattle.plain.proofs.BlockLaws.{contains-true, true-contains, holds-true, true-holds, holds-one, base-holds, offset-test}
@@ -63,6 +64,17 @@ module _ {S : Type 0} (R : Rules) (G : Sound R) (O : Ops S) (image : List Block 
     audit-same : shadowStep R O audit (image bs) ≡ both (plainStep R audit bs)
     unfolding shadowStep plainStep
     audit-same = rw (I .image-audit bs P)
+
+    place-same : (l k : ℕ) → shadowStep R O (place l k) (image bs) ≡ both (plainStep R (place l k) bs)
+    unfolding shadowStep plainStep
+    place-same l k = rw (I .image-gaps bs P) (go (eqb l 0) (noneFits (R .segment) l k (R .gaps bs)))
+      where
+        go : (t u : Bool)
+            → unless (cond t 3 (cond u 14 0)) (image bs) (image bs, placeAnswer (R .segment) l k (R .gaps bs))
+            ≡ both (unless (cond t 3 (cond u 14 0)) bs (bs, placeAnswer (R .segment) l k (R .gaps bs)))
+        go true u = refl
+        go false true = refl
+        go false false = refl
 
     free-same : (x : ℕ) → shadowStep R O (free x) (image bs) ≡ both (plainStep R (free x) bs)
     unfolding shadowStep plainStep
@@ -288,3 +300,4 @@ module _ {S : Type 0} (R : Rules) (G : Sound R) (O : Ops S) (image : List Block 
     step-same (initialised a n) = initialised-same bs P a n
     step-same (next a) = next-same bs P a
     step-same audit = audit-same bs P
+    step-same (place l k) = place-same bs P l k

@@ -23,6 +23,8 @@ pub data Call : Type 0 where
   initialised : (address n : ℕ) → Call
   next : (address : ℕ) → Call
   audit : Call
+  -- S-6: a base for a block of this length, in one of the first `budget` gaps of the heap
+  place : (length budget : ℕ) → Call
 
 -- the three ways to record a block
 abbrev pub record-block : (base length : ℕ) → Call
@@ -88,3 +90,4 @@ byRules R (valid w a n from) = (3, eqb n 0) ∷ []
 byRules R (initialised a n) = (3, eqb n 0) ∷ []
 byRules R (next a) = []
 byRules R audit = []
+byRules R (place l k) = (3, eqb l 0) ∷ []

@@ -26,6 +26,7 @@ pub record Images (R : Rules) {S : Type 0} (O : Ops S) (image : List Block → S
   pub image-marked : (bs : List Block) → Placed R 0 bs → (a : ℕ) (b : Block) → R .inside a ≡ true → find (contains a) bs ≡ some b
       → O .marked (image bs) a ≡ isWritten b a
   pub image-audit : (bs : List Block) → Placed R 0 bs → O .audit (image bs) ≡ some (tallyOf R bs)
+  pub image-gaps : (bs : List Block) → Placed R 0 bs → O .gaps (image bs) ≡ R .gaps bs
 
 -- the other way: a state of the right lengths that an audit accepts is the image of a placed list
 pub record Scanned (R : Rules) {S : Type 0} (O : Ops S) (image : List Block → S) (Fit : S → Type 0) : Type 0 where

@@ -1,7 +1,7 @@
 -- Two areas beside one another are one: their rules, their shadows, their image. Assumes nothing.
 use mathlib.Core.Path.{_≡_}
 use mathlib.Core.Bool.{Bool, true, cond, _||_}
-use mathlib.Core.List.{List, [], _∷_}
+use mathlib.Core.List.{List, [], _∷_, _++_}
 use mathlib.Core.Option.{Option, none, some}
 use Prim.Native.Nat.{ℕ, _+_, _≤_, _<_, max}
 use Rattle.plain.specs.Block.{Block}
@@ -9,10 +9,16 @@ use Rattle.plain.specs.Rules.{Rules}
 use Rattle.plain.specs.Reading.{Tally, tally}
 use Rattle.plain.specs.Ops.{Ops}
 
+-- the blocks whose base is so
+unfoldable pub only : (ℕ → Bool) → List Block → List Block
+only p [] = []
+only p (c ∷ cs) = cond (p (c .base)) (c ∷ only p cs) (only p cs)
+
 -- what the rules of the area that holds an address say: A's where the address is A's, else B's
 abbrev pub byArea : {X : Type 0} → Rules → Rules → (a : ℕ) → (Rules → X) → X
 byArea A B a says = cond (A .inside a) (says A) (says B)
 
+-- the segments are those of A
 abbrev pub joinRules : Rules → Rules → Rules
 joinRules A B =
     record {
@@ -23,6 +29,8 @@ joinRules A B =
       high = λ b l. byArea A B b (λ R. R .high b l);
       heap = λ a. byArea A B a (λ R. R .heap a);
       top = max (A .top) (B .top);
+      segment = A .segment;
+      gaps = λ bs. A .gaps (only (A .inside) bs) ++ B .gaps (only (B .inside) bs);
     }
 
 abbrev pub plus : Option Tally → Option Tally → Option Tally
@@ -48,12 +56,8 @@ joinOps A OA OB =
       mark = λ s a. writeOne (A .inside a) (λ x. OA .mark x a) (λ y. OB .mark y a) s;
       marked = λ s a. readOne (A .inside a) (λ x. OA .marked x a) (λ y. OB .marked y a) s;
       audit = λ s. plus (OA .audit (s .0)) (OB .audit (s .1));
+      gaps = λ s. OA .gaps (s .0) ++ OB .gaps (s .1);
     }
-
--- the blocks whose base is so
-unfoldable pub only : (ℕ → Bool) → List Block → List Block
-only p [] = []
-only p (c ∷ cs) = cond (p (c .base)) (c ∷ only p cs) (only p cs)
 
 abbrev pub joinImage : {X Y : Type 0} → Rules → Rules → (List Block → X) → (List Block → Y) → List Block → X × Y
 joinImage A B imA imB bs = (imA (only (A .inside) bs), imB (only (B .inside) bs))

@@ -1,5 +1,6 @@
 pub mod Block
 pub mod Blocks
+pub mod Gaps
 pub mod Rules
 pub mod Areas
 pub mod Reading
@@ -12,6 +13,7 @@ pub mod Layer
 pub mod Found
 pub mod Answers
 pub mod Call
+pub mod Placing
 pub mod PlainList
 pub mod ShadowCalls
 pub mod Run

@@ -4,18 +4,10 @@ use mathlib.Core.Bool.{true}
 use mathlib.Core.List.{List, map}
 use Prim.Native.Nat.{ℕ, _+_, _-_, _≤_}
 use Rattle.plain.specs.Block.{Block}
-use Rattle.plain.specs.Rules.{Rules}
+use Rattle.plain.specs.Gaps.{Gap}
+use Rattle.plain.specs.Rules.{Rules, Placed}
 use Rattle.plain.specs.Reading.{Reading, nothing, block, damaged}
 use Rattle.plain.specs.Ops.{Ops}
-
--- each address of A is a position of E, from the start s on. Interface of the proofs: no demand rests on it
-pub record Shifted (s : ℕ) (A E : Rules) : Type 0 where
-  pub s-inside : (a : ℕ) → A .inside a ≡ true → (s ≤ a) × (E .inside (a - s) ≡ true)
-  pub s-fits : (b l : ℕ) → A .fits b l ≡ true → (s ≤ b) × (E .fits (b - s) l ≡ true)
-  pub s-aligned : (b l : ℕ) → A .fits b l ≡ true → A .aligned b ≡ true → E .aligned (b - s) ≡ true
-  pub s-low : (b l : ℕ) → A .fits b l ≡ true → A .low b l ≡ s + E .low (b - s) l
-  pub s-high : (b l : ℕ) → A .fits b l ≡ true → A .high b l ≡ s + E .high (b - s) l
-  pub s-heap : (a : ℕ) → A .heap a ≡ E .heap (a - s)
 
 -- a reading by positions, told by addresses
 abbrev pub readingUp : ℕ → Reading → Reading
@@ -30,6 +22,10 @@ down s b = record { base = b .base - s; marks = b .marks; literal = b .literal }
 abbrev pub downs : ℕ → List Block → List Block
 downs s bs = map (down s) bs
 
+-- a gap by positions, told by addresses
+abbrev pub gapUp : ℕ → Gap → Gap
+gapUp s g = record { start = s + g .start; bytes = g .bytes }
+
 abbrev pub liftOps : {S : Type 0} → ℕ → Ops S → Ops S
 liftOps s O =
     record {
@@ -41,4 +37,15 @@ liftOps s O =
       mark = λ h a. O .mark h (a - s);
       marked = λ h a. O .marked h (a - s);
       audit = O .audit;
+      gaps = λ h. map (gapUp s) (O .gaps h);
     }
+
+-- each address of A is a position of E, from the start s on. Interface of the proofs: no demand rests on it
+pub record Shifted (s : ℕ) (A E : Rules) : Type 0 where
+  pub s-inside : (a : ℕ) → A .inside a ≡ true → (s ≤ a) × (E .inside (a - s) ≡ true)
+  pub s-fits : (b l : ℕ) → A .fits b l ≡ true → (s ≤ b) × (E .fits (b - s) l ≡ true)
+  pub s-aligned : (b l : ℕ) → A .fits b l ≡ true → A .aligned b ≡ true → E .aligned (b - s) ≡ true
+  pub s-low : (b l : ℕ) → A .fits b l ≡ true → A .low b l ≡ s + E .low (b - s) l
+  pub s-high : (b l : ℕ) → A .fits b l ≡ true → A .high b l ≡ s + E .high (b - s) l
+  pub s-heap : (a : ℕ) → A .heap a ≡ E .heap (a - s)
+  pub s-gaps : (bs : List Block) → Placed A 0 bs → A .gaps bs ≡ map (gapUp s) (E .gaps (downs s bs))

@@ -1,8 +1,10 @@
 -- The operations on a shadow state, of whatever layout: by addresses, or by positions in a layout's own instance. Assumes nothing.
 use mathlib.Core.Bool.{Bool, true, cond, _&&_}
+use mathlib.Core.List.{List}
 use mathlib.Core.Option.{Option}
 use Prim.Native.Nat.{ℕ, zero, suc}
 use Rattle.plain.specs.Block.{Block}
+use Rattle.plain.specs.Gaps.{Gap}
 use Rattle.plain.specs.Rules.{Rules}
 use Rattle.plain.specs.Reading.{Reading, nothing, Tally}
 
@@ -21,6 +23,8 @@ pub record Ops (S : Type 0) : Type 0 where
   pub marked : S → ℕ → Bool
   -- the totals, or none where the state is no image
   pub audit : S → Option Tally
+  -- the longest runs of all-zero heap segments, in address order
+  pub gaps : S → List Gap
 
 module _ {S : Type 0} (O : Ops S) where
   -- the written bits of the n addresses from a on are set

@@ -10,9 +10,11 @@ use Rattle.plain.specs.Block.{Block, len, begun, contains, holds, hasBas
 use Rattle.plain.specs.Blocks.{find, any, insert, remove, markAll, count, live}
 use Rattle.plain.specs.Blocks as blocks
 use Rattle.plain.specs.Rules.{Rules, meets}
-use Rattle.plain.specs.Call.{Call, clear, begin, free, written, ask, valid, initialised, next, audit, Answer, answer, done, yesNo, Refusal, firstOf, unless, byRules}
+use Rattle.plain.specs.Call.{Call, clear, begin, free, written, ask, valid, initialised, next, audit, place, Answer, answer, done, yesNo, Refusal, firstOf, unless, byRules}
+use Rattle.plain.specs.Placing.{noneFits, placeAnswer}
 
--- the refusals that the live blocks decide: 6 where footprints meet, 7 where there is no such block, 13 where it is a literal
+-- the refusals that the live blocks decide: 6 where footprints meet, 7 where there is no such block, 13 where it is a literal, 14 where
+-- no gap looked at fits
 abbrev pub byList : Rules → Call → List Block → List Refusal
 byList R (begin h b l) bs = (6, any (meets R b l) bs) ∷ []
 byList R (free zero) bs = []
@@ -24,6 +26,7 @@ byList R clear bs = []
 byList R (valid w a n from) bs = []
 byList R (initialised a n) bs = []
 byList R audit bs = []
+byList R (place l k) bs = (14, noneFits (R .segment) l k (R .gaps bs)) ∷ []
 
 -- the live blocks after an accepted call
 abbrev pub listAfter : Call → List Block → List Block
@@ -37,6 +40,7 @@ listAfter (valid w a n from) bs = bs
 listAfter (initialised a n) bs = bs
 listAfter (next a) bs = bs
 listAfter audit bs = bs
+listAfter (place l k) bs = bs
 
 -- base, length, offset, written. Without a block the call is refused, and this is not asked
 abbrev pub askOf : ℕ → Option Block → Answer
@@ -59,6 +63,7 @@ listAnswer R (valid w a n from) bs = yesNo (any (λ b. holds a n b && contains f
 listAnswer R (initialised a n) bs = yesNo (any (λ b. holds a n b && allWritten a n b) bs)
 listAnswer R (next a) bs = nextOf (find (λ b. leb a (b .base)) bs)
 listAnswer R audit bs = answer 0 (count (R .heap) bs) (count (λ a. not (R .heap a)) bs) (live bs) (blocks.written bs)
+listAnswer R (place l k) bs = placeAnswer (R .segment) l k (R .gaps bs)
 
 -- one call on the plain list
 unfoldable pub plainStep : Rules → Call → List Block → List Block × Answer

@@ -1,4 +1,4 @@
--- What follows from the map alone: where blocks may stand. The placing rules of a list of blocks. Assumes nothing.
+-- What follows from the map alone: where blocks may stand, and what room they leave. The placing rules of a list of blocks. Assumes nothing.
 use mathlib.Core.Path.{_≡_}
 use mathlib.Core.Bool.{Bool, true, false, _&&_}
 use mathlib.Core.List.{List, [], _∷_}
@@ -6,6 +6,7 @@ use Prim.Native.Nat.{ℕ, _+_, _≤_, _<_}
 use lib.ListN.{replicate}
 use lib.Dec.{ltb}
 use Rattle.plain.specs.Block.{Block, len}
+use Rattle.plain.specs.Gaps.{Gap}
 
 pub record Rules : Type 0 where
   -- the address lies in an area
@@ -21,6 +22,9 @@ pub record Rules : Type 0 where
   pub heap : ℕ → Bool
   -- every area ends at or below
   pub top : ℕ
+  -- the bytes of a segment of the heap, and the heap's gaps beside these blocks: its segments that no footprint holds, in longest runs
+  pub segment : ℕ
+  pub gaps : List Block → List Gap
 
 -- the footprint of a block of this base and length meets that of a listed one
 unfoldable pub meets : Rules → (base length : ℕ) → Block → Bool

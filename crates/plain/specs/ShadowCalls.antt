@@ -9,7 +9,8 @@ use Rattle.plain.specs.Block.{begun}
 use Rattle.plain.specs.Rules.{Rules}
 use Rattle.plain.specs.Reading.{Reading, nothing, block, damaged, Tally, tally}
 use Rattle.plain.specs.Ops.{Ops, markRange, rangeMarked, readAny}
-use Rattle.plain.specs.Call.{Call, clear, begin, free, written, ask, valid, initialised, next, audit, Answer, answer, done, yesNo, Refusal, firstOf, unless, byRules}
+use Rattle.plain.specs.Call.{Call, clear, begin, free, written, ask, valid, initialised, next, audit, place, Answer, answer, done, yesNo, Refusal, firstOf, unless, byRules}
+use Rattle.plain.specs.Placing.{noneFits, placeAnswer}
 
 -- ---- what a reading says
 
@@ -97,7 +98,7 @@ module _ {S : Type 0} (R : Rules) (O : Ops S) where
   search s a = climb (reading s) a (R .top - a)
 
   -- the refusals that the shadows decide: 6 where the place is not zero, 8 where a reading is damaged, 7 where there is no such block, 13
-  -- where it is a literal. 8 is tried before 7, which is never given where 8 holds
+  -- where it is a literal, 14 where no gap looked at fits. 8 is tried before 7, which is never given where 8 holds
   abbrev pub byShadows : Call → S → List Refusal
   byShadows clear s = []
   byShadows (begin h b l) s = (6, not (O .vacant s b l)) ∷ []
@@ -109,6 +110,7 @@ module _ {S : Type 0} (R : Rules) (O : Ops S) where
   byShadows (initialised a n) s = (8, isDamaged (reading s a)) ∷ []
   byShadows (next a) s = (8, isDamaged (search s a)) ∷ (7, not (isBlock (search s a))) ∷ []
   byShadows audit s = (8, isNone (O .audit s)) ∷ []
+  byShadows (place l k) s = (14, noneFits (R .segment) l k (O .gaps s)) ∷ []
 
   -- the shadows after an accepted call
   abbrev pub shadowsAfter : Call → S → S
@@ -122,6 +124,7 @@ module _ {S : Type 0} (R : Rules) (O : Ops S) where
   shadowsAfter (initialised a n) s = s
   shadowsAfter (next a) s = s
   shadowsAfter audit s = s
+  shadowsAfter (place l k) s = s
 
   -- the answer of an accepted call
   abbrev pub shadowAnswer : Call → S → Answer
@@ -134,6 +137,7 @@ module _ {S : Type 0} (R : Rules) (O : Ops S) where
   shadowAnswer (initialised a n) s = yesNo (inOne n (reading s a) && rangeMarked O s a n)
   shadowAnswer (next a) s = nextAnswer (search s a)
   shadowAnswer audit s = auditAnswer (O .audit s)
+  shadowAnswer (place l k) s = placeAnswer (R .segment) l k (O .gaps s)
 
   -- one call on the shadows
   unfoldable pub shadowStep : Call → S → S × Answer

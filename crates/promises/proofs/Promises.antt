@@ -15,7 +15,8 @@ use Rattle.demands.proofs.Null.{null-outside, no-block-at-null, free-of-null, f
 use Rattle.demands.proofs.Literals.{read-exactly, write-exactly, written-refused, literal-stays}
 use Rattle.demands.proofs.LiteralBits.{bit-one, audit-wants}
 use Rattle.demands.proofs.LiteralBegun.{literal-answers, literal-bytes, literal-elsewhere}
-use Rattle.demands.proofs.Samples.{samples-hold, literal-samples-hold, damage-samples-hold}
+use Rattle.demands.proofs.Places as places
+use Rattle.demands.proofs.Samples.{samples-hold, literal-samples-hold, place-samples-hold, damage-samples-hold}
 use Rattle.demands.proofs.MapSamples.{map-samples-hold}
 use Rattle.demands_origins.proofs.Demand1 as origins
 use Rattle.demands_origins.proofs.Demand3 as origins-runs
@@ -122,8 +123,17 @@ promises =
       literal-answers = literal-answers;
       literal-bytes = literal-bytes;
       literal-elsewhere = literal-elsewhere;
+      gaps-exactly = places.gaps-exactly;
+      gaps-counted = places.gaps-counted;
+      whole-segments = places.whole-segments-hold;
+      place-chooses = places.place-chooses;
+      place-refused = places.place-refused;
+      larger-budget = places.larger-budget;
+      placed-recorded = places.placed-recorded;
+      on-its-own-image = places.on-its-own-image;
       samples-hold = samples-hold;
       literal-samples-hold = literal-samples-hold;
+      place-samples-hold = place-samples-hold;
       map-samples-hold = map-samples-hold;
       damage-samples-hold = damage-samples-hold;
       same-run = same-run;

@@ -12,8 +12,10 @@ use Rattle.demands.specs.Demand3.{RunsEachCall, WholeRun, NoDamage, ClearedRun,
 use Rattle.demands.specs.Begun.{AnswersOfRecord, RecordThenWritten, ListThenWritten, ListStarts}
 use Rattle.demands.specs.Null.{NullOutside, NoBlockAtNull, FreeOfNull, FreeOutside}
 use Rattle.demands.specs.Literals.{ReadExactly, WriteExactly, BitOne, AuditWants, WrittenRefused, LiteralStays, LiteralAnswers, LiteralBytes, LiteralElsewhere}
+use Rattle.demands.specs.Places.{GapsExactly, GapsCounted, WholeSegments, PlaceChooses, PlaceRefused, LargerBudget, PlacedRecorded, OnItsOwnImage}
 use Rattle.demands.specs.Samples.{SamplesHold}
 use Rattle.demands.specs.LiteralSamples.{LiteralSamplesHold}
+use Rattle.demands.specs.PlaceSamples.{PlaceSamplesHold}
 use Rattle.demands.specs.MapSamples.{MapSamplesHold}
 use Rattle.demands.specs.DamageSamples.{DamageSamplesHold}
 use Rattle.demands_origins.specs.Demand1 as origins
@@ -48,7 +50,7 @@ pub record Promises : Type 0 where
   pub written-marks : WrittenMarks
   -- record: all bytes start unwritten; S-1: a block whose bytes all count as written; S-5: and bit 1 of each primary byte set
   pub bytes-start : BytesStart
-  -- every field that an accepted call answers, out of readings and written bits, on any shadows (Told.antt)
+  -- every field that an accepted call answers, out of readings, written bits and, for place, gaps, on any shadows (Told.antt)
   pub answers-read : AnswersRead
   -- a map that keeps the rules is good, and no other (Good.antt)
   pub good-exactly : GoodExactly
@@ -136,7 +138,7 @@ pub record Promises : Type 0 where
   pub origins-accepted-exactly : origins.AcceptedExactly
   pub origins-lowest-wins : origins.LowestWins
   pub origins-its-row-holds : origins.ItsRowHolds
-  -- the plain kinds are the plain form's but for 2 of the cells' lengths, 5 and 12; where accepted, fields and block shadows are its; image and
+  -- the calls of the plain form are as there but for 2 of the cells' lengths, 5 and 12; where accepted, fields and block shadows are its; image and
   -- audit are its, over the three block shadows alone (PlainKinds.antt)
   pub plain-numbers : PlainNumbers
   pub plain-accepted : PlainAccepted
@@ -188,12 +190,31 @@ pub record Promises : Type 0 where
   pub literal-answers : LiteralAnswers
   pub literal-bytes : LiteralBytes
   pub literal-elsewhere : LiteralElsewhere
-  -- ---- samples (Samples.antt, LiteralSamples.antt, MapSamples.antt, DamageSamples.antt, ByteSamples.antt)
+  -- ---- S-6: a place for the next block (Places.antt). It is a call of the statements above too: the table of refusals, what is told, runs
+
+  -- the gaps by which place goes are exactly the longest runs of all-zero heap segments, in address order, and `gapsBelow` counts them, for any bytes
+  pub gaps-exactly : GapsExactly
+  pub gaps-counted : GapsCounted
+  -- the whole segments of a block
+  pub whole-segments : WholeSegments
+  -- the gap chosen fits and is looked at, none such is smaller, and none of the same size is lower; base, count and surplus are its own
+  pub place-chooses : PlaceChooses
+  -- 14 exactly if no gap looked at fits
+  pub place-refused : PlaceRefused
+  -- a larger budget is accepted too, and its surplus is no larger
+  pub larger-budget : LargerBudget
+  -- right after an accepted place, record and record_written of that base and length are accepted, for any bytes
+  pub placed-recorded : PlacedRecorded
+  -- the plain list goes by its blocks' places, which are the gaps of its own image
+  pub on-its-own-image : OnItsOwnImage
+  -- ---- samples (Samples.antt, LiteralSamples.antt, PlaceSamples.antt, MapSamples.antt, DamageSamples.antt, ByteSamples.antt)
 
   -- the marked samples, the worked example, edges, blocks that begin written, and numbers above 255
   pub samples-hold : SamplesHold
   -- literals: their bytes, and what each call makes of them
   pub literal-samples-hold : LiteralSamplesHold
+  -- place: the choice, the count, the surplus, every byte of a segment, numbers of 32 bits
+  pub place-samples-hold : PlaceSamplesHold
   -- each rule of a map broken alone and at its edge, and each length of a shadow
   pub map-samples-hold : MapSamplesHold
   -- each clause of "damaged if", every byte of the numbers, what each call makes of damage, and bytes that do not agree

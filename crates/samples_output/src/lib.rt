@@ -45,6 +45,15 @@ pub fn write_answer(kind: u32, r: Answer) {
     }
 }
 
+// The same for place, which has no kind.
+pub fn write_room(r: Answer) {
+    write(b" =>");
+    spaced(r.number);
+    spaced(r.first);
+    spaced(r.second);
+    spaced(r.third);
+}
+
 fn write_bytes(shadow: &[u8], start: usize, end: usize) {
     let mut i = start;
     while i < end {

@@ -9,16 +9,19 @@ use calls_format::Request;
 use map::Map;
 use monitor::Answer;
 use monitor::Call;
+use monitor::PlainCall;
 use monitor::Update;
 use samples_output::change;
 use samples_output::malformed;
 use samples_output::write_answer;
+use samples_output::write_room;
 use samples_records::Item;
+use samples_text::Number;
 use samples_text::Place;
 
 // The call, under the map of all samples.
 fn step(
-    call: Call,
+    call: PlainCall,
     heap: &mut [u8; 64],
     primary: &mut [u8; 32],
     secondary: &mut [u8; 32],
@@ -43,7 +46,7 @@ fn answer_request(
         Request::NewMap(_) => malformed(),
         Request::Call(call) => write_answer(
             calls_kinds::kind_of(request),
-            step(call, heap, primary, secondary),
+            step(PlainCall::Call(call), heap, primary, secondary),
         ),
     }
 }
@@ -68,7 +71,50 @@ fn answer_named(
     answer_request(request, heap, primary, secondary);
 }
 
-// Clear has no record of its own.
+// Clear has no record of its own, and no number.
+fn answer_clear(
+    line: &[u8],
+    at: usize,
+    heap: &mut [u8; 64],
+    primary: &mut [u8; 32],
+    secondary: &mut [u8; 32],
+) {
+    if samples_text::at_end(line, at) {
+        let clear = Call::Update(Update::Clear);
+        write_answer(0, step(PlainCall::Call(clear), heap, primary, secondary));
+    } else {
+        malformed();
+    }
+}
+
+// The number after spaces.
+fn next_number(line: &[u8], at: usize) -> Number {
+    samples_text::number_at(line, samples_text::skip_spaces(line, at))
+}
+
+// Place has no record either: a length and a budget end its line.
+fn answer_place(
+    line: &[u8],
+    at: usize,
+    heap: &mut [u8; 64],
+    primary: &mut [u8; 32],
+    secondary: &mut [u8; 32],
+) {
+    let Number::Is(length, after) = next_number(line, at) else {
+        malformed();
+        return;
+    };
+    let Number::Is(budget, end) = next_number(line, after) else {
+        malformed();
+        return;
+    };
+    if samples_text::at_end(line, end) {
+        write_room(step(PlainCall::Place(length, budget), heap, primary, secondary));
+    } else {
+        malformed();
+    }
+}
+
 fn answer_call(
     line: &[u8],
     at: usize,
@@ -78,18 +124,16 @@ fn answer_call(
 ) {
     let start = samples_text::skip_spaces(line, at);
     let clear = samples_text::after_name(line, start, b"clear");
-    if start == clear {
-        answer_named(line, start, heap, primary, secondary);
+    if start != clear {
+        answer_clear(line, clear, heap, primary, secondary);
         return;
     }
-    if samples_text::at_end(line, clear) {
-        write_answer(
-            0,
-            step(Call::Update(Update::Clear), heap, primary, secondary),
-        );
-    } else {
-        malformed();
+    let place = samples_text::after_name(line, start, b"place");
+    if start != place {
+        answer_place(line, place, heap, primary, secondary);
+        return;
     }
+    answer_named(line, start, heap, primary, secondary);
 }
 
 fn heap_change(old: &[u8; 64], new: &[u8; 64]) -> bool

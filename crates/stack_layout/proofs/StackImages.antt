@@ -56,6 +56,7 @@ module _ (size : ℕ) (small : size < 256 ^ 4) where
         image-mark = λ bs P a b i e. mark-image size bs P a b e (omega (arith, stack-ranged 0 size .r-inside a i));
         image-marked = λ bs P a b i e. marked-image size bs P a b e;
         image-audit = audits;
+        image-gaps = λ bs P. refl;
       }
 
   pub stack-scanned : Scanned (stackRules 0 size) (stackOps size) (stackImage size) (λ s. (length (s .0) ≡ size) × (length (s .1) ≡ size))

@@ -47,4 +47,5 @@ stackOps size =
       mark = stackMark;
       marked = stackMarked;
       audit = λ s. totals (stackRules 0 size) (stackWalk size (at (s .0)) (at (s .1)) size 0 0 0 false);
+      gaps = λ s. [];
     }

@@ -50,7 +50,8 @@ pub(crate) fn program_map(random: &mut Random) -> Map {
 fn call_record(random: &mut Random, list: &mut Option<PlainList>) -> Vec<u8> {
     let made = if let Some(list) = list {
         let made = call(random, list.map(), list.blocks());
-        // Clear has no kind, so the file must not have it happen either.
+        // Clear has no kind, so the file must not have it happen either; nor has
+        // place, which alters nothing.
         if made != Call::Clear {
             list.step(made);
         }

@@ -1,8 +1,8 @@
-//! Shadow bytes: images of random lists, the same with damage, and noise.
+//! Shadow bytes: images of random lists, the same with damage, gaps, and noise.
 
 use crate::block::{Beginning, Block};
 use crate::call::Call;
-use crate::generate::{call, inside};
+use crate::generate::{call, inside, places};
 use crate::image::{image, Shadows};
 use crate::map::Map;
 use crate::plain::{List, PlainList};
@@ -33,18 +33,20 @@ pub fn damaged(random: &mut Random, map: Map, changes: u64) -> Shadows {
     shadows
 }
 
-/// Bytes of any kind, an image, a damaged one or noise, and a call that is drawn
-/// for what they read as.
+/// Bytes of any kind, an image, a damaged one, gaps or noise, and a call that is
+/// drawn for what they read as, or for their gaps.
 pub fn any(random: &mut Random, map: Map) -> (Shadows, Call) {
     let changes = random.below(4);
-    let shadows = match random.below(6) {
+    let shadows = match random.below(7) {
         0 => noise(random, map),
+        1 => places::gapped(random, map),
         _ => damaged(random, map, changes),
     };
     let blocks = read_blocks(map, &shadows);
-    let call = match blocks.is_empty() || random.once_in(2) {
-        true => call(random, map, &blocks),
-        false => inside(random, &blocks),
+    let call = match random.below(12) {
+        0 => places::place_on(random, &shadows.heap),
+        1..=6 if !blocks.is_empty() => inside(random, &blocks),
+        _ => call(random, map, &blocks),
     };
     (shadows, call)
 }

@@ -6,7 +6,8 @@ use crate::call::Call;
 pub const FIRST_ORIGIN: u64 = 1;
 pub const LAST_ORIGIN: u64 = 4_294_967_295;
 
-/// A plain call, or one of those that this form has alone, kinds 11 to 13.
+/// A plain call, or one of those that this form has alone, kinds 11 to 13. This
+/// form does not offer place: nothing here reads or draws one.
 #[derive(Clone, Copy, Debug, PartialEq, Eq)]
 pub enum OriginsCall {
     Plain(Call),

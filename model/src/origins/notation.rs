@@ -207,6 +207,8 @@ fn named_call(text: &str) -> Option<OriginsCall> {
     let names = ["point", "copy", "live"];
     match names.iter().position(|&known| known == name) {
         Some(index) => OriginsCall::from_record(index as u16 + 11, &numbers_of(rest)?),
+        // This form does not offer place.
+        None if name == "place" => None,
         None => call_of(text).map(OriginsCall::Plain),
     }
 }

@@ -1,6 +1,8 @@
 //! What several test files share.
 #![allow(dead_code)]
 
+pub mod gaps;
+
 use std::collections::HashMap;
 use std::path::PathBuf;
 

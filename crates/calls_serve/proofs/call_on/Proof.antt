@@ -10,35 +10,35 @@ use Rattle.calls_serve.proofs.call_on.Tie as tie
 sizes-of-requires : tie.Need-sizes-of-requires
 sizes-of-requires c κs = search needs
 
-sub-step : tie.Need-sub-step
-sub-step c = search needs
+sub-call-step : tie.Need-sub-call-step
+sub-call-step c = search needs
 
-part-step-start : tie.Need-part-step-start
-part-step-start c = search needs
+part-call-step-start : tie.Need-part-call-step-start
+part-call-step-start c = search needs
 
-part-step-end : tie.Need-part-step-end
-part-step-end c = search needs
+part-call-step-end : tie.Need-part-call-step-end
+part-call-step-end c = search needs
 
-sub-step-2 : tie.Need-sub-step-2
-sub-step-2 c = search needs
+sub-call-step-2 : tie.Need-sub-call-step-2
+sub-call-step-2 c = search needs
 
-part-step-start-2 : tie.Need-part-step-start-2
-part-step-start-2 c = search needs
+part-call-step-start-2 : tie.Need-part-call-step-start-2
+part-call-step-start-2 c = search needs
 
-part-step-end-2 : tie.Need-part-step-end-2
-part-step-end-2 c = search needs
+part-call-step-end-2 : tie.Need-part-call-step-end-2
+part-call-step-end-2 c = search needs
 
-sub-step-3 : tie.Need-sub-step-3
-sub-step-3 c = search needs
+sub-call-step-3 : tie.Need-sub-call-step-3
+sub-call-step-3 c = search needs
 
-part-step-start-3 : tie.Need-part-step-start-3
-part-step-start-3 c = search needs
+part-call-step-start-3 : tie.Need-part-call-step-start-3
+part-call-step-start-3 c = search needs
 
-part-step-end-3 : tie.Need-part-step-end-3
-part-step-end-3 c = search needs
+part-call-step-end-3 : tie.Need-part-call-step-end-3
+part-call-step-end-3 c = search needs
 
-step-requires : tie.Need-step-requires
-step-requires c κs = search needs
+call-step-requires : tie.Need-call-step-requires
+call-step-requires c κs = search needs
 
 same-length : tie.Need-same-length
 same-length c = search needs
@@ -54,30 +54,30 @@ returns c =
     let e = c .before .before .before .before .before .before in
     let a = e .before .before .before .before .before .before .before .before .args in
     let z = e .before .before .before .before .sizes-of .ensures in
-    on-parts (a .map) _ _ (now (a .heap)) (now (a .primary)) (now (a .secondary)) (e .step .last .1 .1 .0) (e .step .last .1 .1 .1 .0) (e .step .last .1 .1 .1 .1 .0) _ _ _
+    on-parts (a .map) _ _ (now (a .heap)) (now (a .primary)) (now (a .secondary)) (e .call-step .last .1 .1 .0) (e .call-step .last .1 .1 .1 .0) (e .call-step .last .1 .1 .1 .1 .0) _ _ _
     (sub-zero _ ∙ z .0)
     (sub-zero _ ∙ z .1)
     (sub-zero _ ∙ z .2)
-    (e .step .kept .1 .1 .0)
-    (e .step .kept .1 .1 .1 .0)
-    (e .step .kept .1 .1 .1 .1 .0)
-    (e .step .ensures)
+    (e .call-step .kept .1 .1 .0)
+    (e .call-step .kept .1 .1 .1 .0)
+    (e .call-step .kept .1 .1 .1 .1 .0)
+    (e .call-step .ensures)
 
 pub call-on-spec : {M : Type 1} → statement M
 call-on-spec =
     tie.close
     (tie.spec
     sizes-of-requires
-    sub-step
-    part-step-start
-    part-step-end
-    sub-step-2
-    part-step-start-2
-    part-step-end-2
-    sub-step-3
-    part-step-start-3
-    part-step-end-3
-    step-requires
+    sub-call-step
+    part-call-step-start
+    part-call-step-end
+    sub-call-step-2
+    part-call-step-start-2
+    part-call-step-end-2
+    sub-call-step-3
+    part-call-step-start-3
+    part-call-step-end-3
+    call-step-requires
     same-length
     same-length-2
     same-length-3

@@ -1,8 +1,7 @@
 -- `heap_place::place_length` meets its contract. Assumes nothing.
 use mathlib.Core.Path.{refl}
 use native.Mathlib.Omega.{arith}
-use Rattle.plain.specs.Areas.{segments}
-use Rattle.heap_layout.specs.Ops.{placeLength}
+use Rattle.plain.specs.Areas.{segments, placeLength}
 use borrow.Author.Needs.{needs}
 use Rattle.heap_place.proofs.place_length.Statement.{statement}
 use Rattle.heap_place.proofs.place_length.Tie as tie

@@ -1,4 +1,4 @@
--- `monitor::step` meets its contract: a call that reads, or one that writes. Assumes nothing.
+-- `monitor::step` meets its contract: a call that both forms have, or place. Assumes nothing.
 use borrow.Author.Needs.{needs}
 use Rattle.monitor.proofs.step.Statement.{statement}
 use Rattle.monitor.proofs.step.Tie as tie
@@ -6,14 +6,14 @@ use Rattle.monitor.proofs.step.Tie as tie
 enum-known-call : tie.Need-enum-known-call
 enum-known-call c = search needs
 
-query-step-requires : tie.Need-query-step-requires
-query-step-requires c κs = search needs
+call-step-requires : tie.Need-call-step-requires
+call-step-requires c κs = search needs
 
 enum-known-call-2 : tie.Need-enum-known-call-2
 enum-known-call-2 c = search needs
 
-update-step-requires : tie.Need-update-step-requires
-update-step-requires c κs = search needs
+place-requires : tie.Need-place-requires
+place-requires c κs = search needs
 
 same-length : tie.Need-same-length
 same-length c = search needs
@@ -25,7 +25,8 @@ same-length-3 : tie.Need-same-length-3
 same-length-3 c = search needs
 
 returns : tie.Need-returns
-returns c = rw (c .before .before .before .before .before .call .given .1) (c .query-step .ensures)
+returns c =
+    rw (c .before .before .before .before .before .before .before .before .before .before .before .call .given .1) (c .before .before .before .before .before .before .call-step .ensures)
 
 same-length-4 : tie.Need-same-length-4
 same-length-4 c = search needs
@@ -37,16 +38,16 @@ same-length-6 : tie.Need-same-length-6
 same-length-6 c = search needs
 
 returns-2 : tie.Need-returns-2
-returns-2 c = rw (c .before .before .before .before .before .before .before .before .before .before .before .call2 .given .1) (c .before .before .before .before .before .before .update-step .ensures)
+returns-2 c = rw (c .before .before .before .before .before .call2 .given .1) (c .place .ensures)
 
 pub step-spec : {M : Type 1} → statement M
 step-spec =
     tie.close
     (tie.spec
     enum-known-call
-    query-step-requires
+    call-step-requires
     enum-known-call-2
-    update-step-requires
+    place-requires
     same-length
     same-length-2
     same-length-3

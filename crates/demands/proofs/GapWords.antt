@@ -1,0 +1,119 @@
+-- The gaps by which place goes, in the words of specs/Gaps.antt. Assumes nothing.
+use mathlib.Core.Path.{_≡_, refl, sym, ap, _∙_, subst}
+use mathlib.Core.Bool.{Bool, true, false, not, _&&_, _||_}
+use mathlib.Core.List.{List, [], _∷_, _++_, map}
+use mathlib.Core.Option.{Option, none, some}
+use Prim.Native.Nat.{ℕ, zero, suc, _+_, _*_, _-_, _/_, _≤_, _<_}
+use native.Mathlib.Omega.{arith}
+use lib.ListN.{take}
+use lib.Dec.{leb, ltb}
+use borrow.Author.Tests.{le-leb, lt-ltb, leb-true, ltb-true, ltb-false}
+use Rattle.number.specs.Parts.{at, zeros, runOf}
+use Rattle.number.proofs.TestLaws.{Test, is-true, is-false, test, and-true, not-both, false-of}
+use Rattle.map.specs.declared.Map.{Map}
+use Rattle.plain.specs.Areas.{segments, placeLength}
+use Rattle.plain.specs.Gaps.{Gap, gapsOf, best, Among}
+use Rattle.plain.specs.Lift.{gapUp}
+use Rattle.plain.specs.Placing.{noGap, noneFits}
+use Rattle.plain.proofs.AreaLaws.{segments-up, segments-down}
+use Rattle.plain.proofs.GapLaws.{gaps-up}
+use Rattle.plain.proofs.BestLaws.{Chosen, BestOf, best-of}
+use Rattle.heap_layout.specs.Ops.{heapGaps}
+use Rattle.shadows.specs.Shadows.{Shadows, shadowOps}
+use Rattle.demands.specs.Gaps.{heapSegments, isZero, beginsRun, runsBelow, gapSize, isLooked, placeBytes}
+use Rattle.demands.specs.Numbers.{someSegment}
+use Rattle.demands.proofs.GapLists.{gapAt, listed, gaps-listed, Looked, listed-looked, looked-listed}
+
+-- ---- whole segments
+
+pub whole-segments : (l : ℕ) → (l ≤ segments 8 l * 8) × (segments 8 l * 8 < l + 8)
+whole-segments l = (segments-up 8 (omega arith) l, omega (arith, segments-down 8 l))
+
+-- whole segments hold header and block exactly if they hold the block's bytes behind the header
+pub holds-need : (l n : ℕ) → 8 + l ≤ n * 8 → placeLength 8 l ≤ n * 8
+unfolding placeLength
+holds-need l n h = omega (arith, whole-segments l .1)
+
+pub need-holds : (l n : ℕ) → placeLength 8 l ≤ n * 8 → 8 + l ≤ n * 8
+unfolding placeLength
+need-holds l n h = omega (arith, whole-segments l .0)
+
+-- ---- one of some segments
+
+some-true : (p : ℕ → Bool) (n : ℕ) → someSegment p n ≡ true → (i : ℕ) × (i < n) × (p i ≡ true)
+unfolding someSegment
+some-true p zero e = absurd (not-both false e refl)
+some-true p (suc n) e = go (test (p n)) (test (someSegment p n)) e (some-true p n)
+  where
+    go : Test (p n) → Test (someSegment p n) → (someSegment p n || p n) ≡ true → (someSegment p n ≡ true → (i : ℕ) × (i < n) × (p i ≡ true)) → (i : ℕ) × (i < suc n) × (p i ≡ true)
+    go (is-true t) u e ih = (n, omega arith, t)
+    go (is-false t) (is-true u) e ih = let r = ih u in (r .0, omega (arith, r .1), r .2)
+    go (is-false t) (is-false u) e ih = absurd (not-both false (rw (u, t) at e) refl)
+
+pub true-some : (p : ℕ → Bool) (n i : ℕ) → i < n → p i ≡ true → someSegment p n ≡ true
+unfolding someSegment
+true-some p zero i l e = absurd (omega arith)
+true-some p (suc n) i l e = go (test (p n)) (test (ltb i n)) (λ k. true-some p n i k e)
+  where
+    or-true : (a : Bool) → (a || true) ≡ true
+    or-true true = refl
+    or-true false = refl
+
+    go : Test (p n) → Test (ltb i n) → (i < n → someSegment p n ≡ true) → (someSegment p n || p n) ≡ true
+    go (is-true t) u ih = rw t (or-true (someSegment p n))
+    go (is-false t) (is-true u) ih = rw (ih (ltb-true i n u))
+    go (is-false t) (is-false u) ih = absurd (let q : i ≡ n = omega (arith, ltb-false i n u) in not-both (p n) (subst (λ (z : ℕ). p z ≡ true) q e) t)
+
+-- ---- the gaps of the definition
+
+module _ (m : Map) (s : Shadows) where
+  abbrev N : ℕ
+  N = heapSegments m
+
+  abbrev pub gapAtSegment : ℕ → Gap
+  gapAtSegment i = gapAt (isZero s) (m .«heap_start») N i
+
+  append-nil : (gs : List Gap) → gs ++ [] ≡ gs
+  append-nil [] = refl
+  append-nil (g ∷ gs) = rw (append-nil gs)
+
+  pub gaps-words : shadowOps m .gaps s ≡ listed (isZero s) (m .«heap_start») N N 0
+  unfolding heapGaps
+  gaps-words =
+      append-nil (map (gapUp (m .«heap_start»)) (gapsOf 8 0 (isZero s) N)) ∙ gaps-up 8 (m .«heap_start») (isZero s) N 0 0 ∙ gaps-listed (isZero s) (m .«heap_start») N
+
+  -- a gap that is looked at, by its first segment
+  pub looked-among : (k i : ℕ) → i < N → isLooked s k i ≡ true → Among (gapAtSegment i) (take k (shadowOps m .gaps s))
+  unfolding runsBelow
+  looked-among k i l e =
+      let u = and-true (beginsRun (isZero s) i) (ltb (runsBelow (isZero s) i) k) e in
+      let v = ltb-true (runsBelow (isZero s) i) k (u .1) in
+      rw gaps-words (looked-listed (isZero s) (m .«heap_start») N k N 0 i (omega arith) (omega arith) (u .0) (omega arith))
+
+  pub among-looked : (k : ℕ) (g : Gap) → Among g (take k (shadowOps m .gaps s)) → (i : ℕ) × (i < N) × (isLooked s k i ≡ true) × (g ≡ gapAtSegment i)
+  unfolding runsBelow
+  among-looked k g a =
+      let r = listed-looked (isZero s) (m .«heap_start») N k N 0 g (rw gaps-words at a) in
+      let j = r .0 in
+      (j, omega (arith, r .1 .high), rw (r .1 .begins, lt-ltb (runsBelow (isZero s) j) k (omega (arith, r .1 .few))), r .1 .same)
+
+  -- 14's condition
+  pub room-words : (l k : ℕ) → noneFits 8 l k (shadowOps m .gaps s) ≡ not (someSegment (λ i. isLooked s k i && leb (8 + l) (gapSize m s i * 8)) N)
+  room-words l k = go (best (placeLength 8 l) (take k (shadowOps m .gaps s))) (best-of (placeLength 8 l) (take k (shadowOps m .gaps s)))
+    where
+      p : ℕ → Bool
+      p i = isLooked s k i && leb (8 + l) (gapSize m s i * 8)
+
+      go : (o : Option Gap) → BestOf (placeLength 8 l) (take k (shadowOps m .gaps s)) o → noGap o ≡ not (someSegment p N)
+      go none b =
+          let e : someSegment p N ≡ false =
+          false-of (someSegment p N) (λ t.
+          let r = some-true p N t in
+          let u = and-true (isLooked s k (r .0)) (leb (8 + l) (gapSize m s (r .0) * 8)) (r .2) in
+          b (gapAtSegment (r .0)) (looked-among k (r .0) (r .1) (u .0)) (holds-need l (gapSize m s (r .0)) (leb-true (8 + l) (gapSize m s (r .0) * 8) (u .1)))) in
+          rw e
+      go (some g) c =
+          let r = among-looked k g (c .among) in
+          let f : placeLength 8 l ≤ gapSize m s (r .0) * 8 = subst (λ (h : Gap). placeLength 8 l ≤ h .bytes) (r .3) (c .fits) in
+          let t : p (r .0) ≡ true = rw (r .2, le-leb (8 + l) (gapSize m s (r .0) * 8) (need-holds l (gapSize m s (r .0)) f)) in
+          rw (true-some p N (r .0) (r .1) t)
