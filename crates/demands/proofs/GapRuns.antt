@@ -1,18 +1,13 @@
 -- Runs of places that pass a test, and the gaps of a heap whose free segments they are: where they begin, how many there are, how long each is.
 -- Assumes nothing.
-use mathlib.Core.Path.{_≡_, refl, sym, ap, _∙_, subst}
-use mathlib.Core.Logic.{_≢_, inl, inr}
+use mathlib.Core.Path.{_≡_, refl, sym, _∙_}
 use mathlib.Core.Bool.{Bool, true, false, cond, not, _&&_}
-use mathlib.Core.List.{List, [], _∷_, _++_}
-use Prim.Native.Nat.{ℕ, zero, suc, _+_, _*_, _-_, _≤_, _<_}
+use Prim.Native.Nat.{ℕ, zero, suc, _+_, _-_, _≤_, _<_}
 use native.Mathlib.Omega.{arith}
-use lib.ListN.{length, take}
-use Rattle.number.specs.Bits.{bit}
-use Rattle.number.specs.Parts.{Each, runOf}
-use Rattle.number.proofs.TestLaws.{Test, is-true, is-false, test, and-true, not-both}
+use Rattle.number.specs.Parts.{runOf}
+use Rattle.number.proofs.TestLaws.{Test, is-true, is-false, test, and-true}
 use Rattle.number.proofs.RunLaws.{run-le, run-at, run-all, run-on}
-use Rattle.plain.specs.Gaps.{Gap, gapsAfter, gapsOf, Among, Ascending}
-use Rattle.demands.specs.Gaps.{beginsRun, runsBelow}
+use Rattle.demands.specs.Gaps.{beginsRun}
 
 -- the n places from i on are a longest run among the first N
 pub record Longest (f : ℕ → Bool) (N i n : ℕ) : Type 0 where

@@ -1,14 +1,14 @@
 -- The gaps by which place goes, in the words of specs/Gaps.antt. Assumes nothing.
-use mathlib.Core.Path.{_≡_, refl, sym, ap, _∙_, subst}
+use mathlib.Core.Path.{_≡_, refl, _∙_, subst}
 use mathlib.Core.Bool.{Bool, true, false, not, _&&_, _||_}
 use mathlib.Core.List.{List, [], _∷_, _++_, map}
 use mathlib.Core.Option.{Option, none, some}
-use Prim.Native.Nat.{ℕ, zero, suc, _+_, _*_, _-_, _/_, _≤_, _<_}
+use Prim.Native.Nat.{ℕ, zero, suc, _+_, _*_, _≤_, _<_}
 use native.Mathlib.Omega.{arith}
 use lib.ListN.{take}
 use lib.Dec.{leb, ltb}
 use borrow.Author.Tests.{le-leb, lt-ltb, leb-true, ltb-true, ltb-false}
-use Rattle.number.specs.Parts.{at, zeros, runOf}
+use Rattle.number.specs.Parts.{at}
 use Rattle.number.proofs.TestLaws.{Test, is-true, is-false, test, and-true, not-both, false-of}
 use Rattle.map.specs.declared.Map.{Map}
 use Rattle.plain.specs.Areas.{segments, placeLength}
@@ -17,12 +17,12 @@ use Rattle.plain.specs.Lift.{gapUp}
 use Rattle.plain.specs.Placing.{noGap, noneFits}
 use Rattle.plain.proofs.AreaLaws.{segments-up, segments-down}
 use Rattle.plain.proofs.GapLaws.{gaps-up}
-use Rattle.plain.proofs.BestLaws.{Chosen, BestOf, best-of}
+use Rattle.plain.proofs.BestLaws.{BestOf, best-of}
 use Rattle.heap_layout.specs.Ops.{heapGaps}
 use Rattle.shadows.specs.Shadows.{Shadows, shadowOps}
-use Rattle.demands.specs.Gaps.{heapSegments, isZero, beginsRun, runsBelow, gapSize, isLooked, placeBytes}
+use Rattle.demands.specs.Gaps.{heapSegments, isZero, beginsRun, runsBelow, gapSize, isLooked}
 use Rattle.demands.specs.Numbers.{someSegment}
-use Rattle.demands.proofs.GapLists.{gapAt, listed, gaps-listed, Looked, listed-looked, looked-listed}
+use Rattle.demands.proofs.GapLists.{gapAt, listed, gaps-listed, listed-looked, looked-listed}
 
 -- ---- whole segments
 

@@ -96,8 +96,8 @@ noneBegins rd a zero = true
 noneBegins rd a (suc n) = not (isFirst (rd a)) && noneBegins rd (suc a) n
 
 -- 8, "a reading is damaged (for valid, either reading; for written and initialised, the first byte's; for next, one met before an answer);
--- for audit, no image": all but clear, record and, as it takes no reading, place. S-2: free of address 0 takes no reading. What audit finds is no image: Demand2.antt, `AuditOnly`
--- and `AuditRefuses`
+-- for audit, no image": all but clear, record and, as it takes no reading, place. S-2: free of address 0 takes no reading. What audit finds is no
+-- image: Demand2.antt, `AuditOnly` and `AuditRefuses`
 abbrev pub damageMet : Map → Call → Shadows → Bool
 damageMet m clear s = false
 damageMet m (begin h b l) s = false

@@ -1,16 +1,12 @@
--- Request S-4: "takes the plain kinds too". What they are in the form with origins, against the plain form's `call` on the same three shadows, for
--- every input. Proved in proofs/PlainKinds.antt. Assumes nothing.
+-- Request S-4: "takes the plain kinds too". What they, and place, which has no kind, are in the form with origins, against the plain form's `call` on
+-- the same three shadows, for every input. Proved in proofs/PlainKinds.antt. Assumes nothing.
 use mathlib.Core.Path.{_≡_}
 use mathlib.Core.Bool.{Bool, true, cond, not, _&&_, _||_}
-use mathlib.Core.List.{List}
 use Prim.Native.Nat.{ℕ}
 use lib.Dec.{eqb}
 use Rattle.map.specs.declared.Map.{Map}
-use Rattle.map.specs.Map.{goodMap}
-use Rattle.plain.specs.Block.{Block}
 use Rattle.plain.specs.Call as base
-use Rattle.plain.specs.Call.{audit, answer}
-use Rattle.shadows.specs.Shadows.{Shadows, lengthsFit}
+use Rattle.plain.specs.Call.{audit}
 use Rattle.monitor_base.specs.Calls as monitor
 use Rattle.demands.specs.Demand1 as before
 use Rattle.origins_list.specs.Call.{Call, plain}

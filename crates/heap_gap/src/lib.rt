@@ -1,6 +1,6 @@
 // One gap of a heap, and one segment of the pass that finds it: segments of 8 bytes.
 ghost use mathlib.Core.Path.{_≡_};
-ghost use Prim.Native.Nat.{_+_, _≤_};
+ghost use Prim.Native.Nat.{_≤_};
 ghost use Rattle.plain.specs.Areas.{placeLength};
 ghost use Rattle.heap_gap.specs.Scans.{Ready, ended, turned};
 
@@ -15,7 +15,7 @@ pub struct Scan {
 
 // How many bytes header and block take, in whole segments: more than 32 bits hold where the block is largest.
 pub fn needed(len: u32) -> u64
-    ensures { λ r. ⌜ (r ≡ placeLength 8 len) × (8 ≤ r) ⌝ }
+    ensures { λ r. ⌜ r ≡ placeLength 8 len ⌝ }
 {
     8 + (len as u64 + 7) / 8 * 8
 }

@@ -1,18 +1,18 @@
 -- The gaps of an image are those of its list: a segment is all zeros exactly if no block's place holds a byte of it. Assumes nothing.
-use mathlib.Core.Path.{_≡_, refl, sym, ap, _∙_, subst}
-use mathlib.Core.Bool.{Bool, true, cond, not, _&&_}
+use mathlib.Core.Path.{_≡_, refl, sym, ap, _∙_}
+use mathlib.Core.Bool.{true, not}
 use mathlib.Core.List.{List, [], _∷_}
 use mathlib.Core.Option.{Option, none, some}
-use Prim.Native.Nat.{ℕ, suc, _+_, _*_, _-_, _/_, _≤_, _<_}
+use Prim.Native.Nat.{ℕ, suc, _+_, _*_, _-_, _/_, _<_}
 use native.Mathlib.Omega.{arith}
 use native.Mathlib.Nat.{mul-le-mul-right, lt-of-mul-lt-mul-right}
 use lib.Dec.{ltb}
 use borrow.Author.Tests.{lt-ltb, ltb-true}
-use Rattle.number.specs.Parts.{at, zeros}
+use Rattle.number.specs.Parts.{zeros}
 use Rattle.number.proofs.TestLaws.{and-true, same-test, false-of, in-true}
 use Rattle.number.proofs.PartLaws.{zeros-at, zeros-all}
 use Rattle.plain.specs.Block.{Block, len}
-use Rattle.plain.specs.Blocks.{find, found, any}
+use Rattle.plain.specs.Blocks.{find, found}
 use Rattle.plain.specs.Rules.{Placed}
 use Rattle.plain.specs.Areas.{segments, takes, heapRules}
 use Rattle.plain.proofs.AreaLaws.{heap-sound}

@@ -1,7 +1,7 @@
 -- The operations on a heap shadow. Positions. Assumes nothing.
 use mathlib.Core.Bool.{Bool}
 use mathlib.Core.List.{List, [], _∷_}
-use Prim.Native.Nat.{ℕ, _+_, _*_, _-_, _/_, _%_}
+use Prim.Native.Nat.{ℕ, _*_, _-_, _/_, _%_}
 use lib.ListN.{replicate, set}
 use lib.Dec.{eqb}
 use Rattle.number.specs.Bits.{withBit}

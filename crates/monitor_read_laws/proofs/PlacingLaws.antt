@@ -1,10 +1,10 @@
 -- Place under a map, by the gaps of its heap shadow. Assumes nothing.
-use mathlib.Core.Path.{_≡_, refl, ap, _∙_}
+use mathlib.Core.Path.{_≡_, refl, _∙_}
 use mathlib.Core.Bool.{true, cond}
 use mathlib.Core.Logic.{_≢_}
-use mathlib.Core.List.{List, [], _++_, map}
+use mathlib.Core.List.{List}
 use mathlib.Core.Option.{Option, none, some}
-use Prim.Native.Nat.{ℕ, _+_}
+use Prim.Native.Nat.{ℕ}
 use native.Mathlib.Nat.{add-assoc}
 use lib.ListN.{length, take}
 use borrow.Author.Tests.{eq-eqb, ne-eqb}
@@ -13,7 +13,6 @@ use Rattle.map.specs.Map.{goodMap}
 use Rattle.plain.specs.Areas.{placeLength, mapRules}
 use Rattle.plain.specs.Gaps.{Gap, best}
 use Rattle.plain.specs.Call.{place, unless, refusal}
-use Rattle.plain.specs.Lift.{gapUp}
 use Rattle.plain.specs.Placing.{noGap, placeOf}
 use Rattle.plain.specs.ShadowCalls.{shadowStep}
 use Rattle.plain.proofs.GapLaws.{gapsUp, take-up, length-up, best-up}

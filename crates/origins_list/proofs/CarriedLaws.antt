@@ -3,7 +3,7 @@
 use mathlib.Core.Path.{_≡_, refl, sym, _∙_}
 use mathlib.Core.Logic.{_≢_}
 use mathlib.Core.Bool.{Bool, true, false, cond}
-use mathlib.Core.List.{List, [], _∷_, _++_}
+use mathlib.Core.List.{List, [], _∷_}
 use Prim.Native.Nat.{ℕ, zero, suc, _%_, _≤_, _<_}
 use native.Mathlib.Omega.{arith}
 use lib.Dec.{eqb}
@@ -22,9 +22,9 @@ use Rattle.origins_list.specs.Cells.{Small}
 use Rattle.origins_list.specs.OriginList.{OriginList, firstListAt, byOrigins, pointsInto, originsAfter, originAnswer, originStep}
 use Rattle.origins_list.specs.Carries.{Carries}
 use Rattle.origins_list.specs.History.{History, judged}
-use Rattle.origins_list.proofs.SpotLaws.{Spot, vacant, taken, spot, isBase, hasFour, There, there, any-base, any-four}
+use Rattle.origins_list.proofs.SpotLaws.{Spot, vacant, taken, spot, isBase, hasFour, there, any-base, any-four}
 use Rattle.origins_list.proofs.KeepLaws.{Keeps, keep-none}
-use Rattle.origins_list.proofs.HistoryLaws.{Tells, tells-first}
+use Rattle.origins_list.proofs.HistoryLaws.{tells-first}
 use Rattle.origins_list.proofs.ToldLaws.{judged-so}
 use Rattle.origins_list.proofs.StepLaws.{accepted-0, Good, TellsOf, held-there}
 

@@ -4,18 +4,18 @@ use mathlib.Core.Path.{_≡_, refl, sym, ap, _∙_}
 use mathlib.Core.Bool.{Bool, true, false, cond, not, _&&_, _||_}
 use mathlib.Core.List.{List, _++_}
 use mathlib.Core.Option.{Option, none, some}
-use Prim.Native.Nat.{ℕ, zero, suc, _+_, _-_, _%_, _≤_, _<_}
+use Prim.Native.Nat.{ℕ, zero, suc, _+_, _%_, _≤_}
 use native.Mathlib.Omega.{arith}
 use native.Mathlib.Nat.{sub-zero}
 use lib.Dec.{eqb}
 use lib.ListN.{length-replicate}
 use borrow.Author.Tests.{eqb-true, eqb-false}
-use Rattle.number.proofs.TestLaws.{Test, is-true, is-false, test, and-true, or-false, not-both}
+use Rattle.number.proofs.TestLaws.{Test, is-true, is-false, test, and-true}
 use Rattle.plain.specs.declared.Beginning.{Beginning}
-use Rattle.plain.specs.Block.{Block, len, startsWritten, startsLiteral, begun, contains, holds, hasBase}
+use Rattle.plain.specs.Block.{Block, len, startsWritten, startsLiteral, begun, contains, hasBase}
 use Rattle.plain.specs.Blocks.{find, any}
-use Rattle.plain.specs.Rules.{Rules, Placed, Sound, meets}
-use Rattle.plain.specs.Reading.{Reading, nothing, block, says, lookup}
+use Rattle.plain.specs.Rules.{Rules, Sound, meets}
+use Rattle.plain.specs.Reading.{Reading, says, lookup}
 use Rattle.plain.specs.Ops.{Ops, readAny}
 use Rattle.plain.specs.Images.{Images}
 use Rattle.plain.specs.Call as base
@@ -31,10 +31,10 @@ use Rattle.plain.proofs.AnswerLaws as shadows
 use Rattle.plain.proofs.RunLaws as lists
 use Rattle.origins_list.specs.Call.{Call, plain, point, copy, live, isCell, isOrigin}
 use Rattle.origins_list.specs.CellOps.{CellOps}
-use Rattle.origins_list.specs.Cells.{Held, put, cut, cellOf, CellImages}
+use Rattle.origins_list.specs.Cells.{Held, put, cellOf, CellImages}
 use Rattle.origins_list.specs.StateCalls.{State, originRead, isPointer, byState, cellsAfter, stateAfter, stateAnswer, stateStep}
 use Rattle.origins_list.specs.OriginList.{OriginList, originFound, originHeld, canPoint, byOrigins, originAfter, referentAfter, originsAfter, pointsInto, originAnswer, originStep}
-use Rattle.origins_list.proofs.SpotLaws.{vacant, taken, hasFour, There, there, any-four, spot-base}
+use Rattle.origins_list.proofs.SpotLaws.{vacant, taken, hasFour, there, any-four, spot-base}
 use Rattle.origins_list.proofs.StepLaws.{Good, can-point}
 use Rattle.origins_list.proofs.CarriedLaws.{small-origin, small-referent}
 

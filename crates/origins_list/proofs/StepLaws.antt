@@ -1,10 +1,10 @@
 -- Each call keeps what the plain list of this form carries, and what the history tells of it. Assumes nothing.
-use mathlib.Core.Path.{_≡_, refl, sym, ap, _∙_, fun-ext}
+use mathlib.Core.Path.{_≡_, refl, sym, _∙_, fun-ext}
 use mathlib.Core.Logic.{_≢_}
 use mathlib.Core.Bool.{Bool, true, false, cond, not, _&&_, _||_}
 use mathlib.Core.List.{List, _∷_}
 use mathlib.Core.Option.{Option, none, some}
-use Prim.Native.Nat.{ℕ, zero, suc, _+_, _%_, _≤_, _<_}
+use Prim.Native.Nat.{ℕ, zero, suc, _%_, _≤_, _<_}
 use native.Mathlib.Omega.{arith}
 use lib.Dec.{leb, eqb}
 use borrow.Author.Tests.{ne-eqb, leb-true, eqb-true, eqb-false}
@@ -21,10 +21,10 @@ use Rattle.plain.proofs.KeptLaws.{remove-placed, marks-placed}
 use Rattle.plain.proofs.RunLaws.{Joins, begun-proper, keep-begin}
 use Rattle.plain.proofs.RunLaws as lists
 use Rattle.origins_list.specs.Call.{Call, plain, point, copy, live, isCell, isOrigin, leaves, roleOf}
-use Rattle.origins_list.specs.Cells.{Held, empty, put, cut}
+use Rattle.origins_list.specs.Cells.{put, cut}
 use Rattle.origins_list.specs.OriginList.{OriginList, originFound, originHeld, canPoint, byOrigins, originsAfter, originAnswer, originStep}
 use Rattle.origins_list.specs.History.{History}
-use Rattle.origins_list.proofs.SpotLaws.{Spot, vacant, taken, spot, spans, hasFour, without, There, there, any-four, spot-marks, spot-insert, spot-alone, spot-remove, spot-base}
+use Rattle.origins_list.proofs.SpotLaws.{Spot, vacant, taken, spot, spans, hasFour, without, there, any-four, spot-marks, spot-insert, spot-alone, spot-remove, spot-base}
 use Rattle.origins_list.proofs.KeepLaws.{Whole, Keeps, spans-true, keep-none, keep-put, keep-free}
 use Rattle.origins_list.proofs.KeepLaws as cells
 use Rattle.origins_list.proofs.HistoryLaws.{Tells}

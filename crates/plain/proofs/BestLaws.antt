@@ -1,6 +1,6 @@
 -- The gap that is chosen: it fits, none that fits is smaller, and none of the same size is lower. Assumes nothing.
 use mathlib.Core.Path.{_≡_, refl, sym, ap, subst}
-use mathlib.Core.Bool.{Bool, true, false, cond}
+use mathlib.Core.Bool.{false, cond}
 use mathlib.Core.Logic.{_⊎_, inl, inr, ⊎-elim}
 use mathlib.Core.List.{List, [], _∷_}
 use mathlib.Core.Option.{Option, none, some}
@@ -8,9 +8,9 @@ use Prim.Native.Nat.{ℕ, zero, suc, _+_, _≤_, _<_}
 use native.Mathlib.Omega.{arith}
 use lib.ListN.{length, take}
 use lib.Dec.{leb}
-use borrow.Author.Tests.{le-leb, leb-true, leb-false}
+use borrow.Author.Tests.{leb-true, leb-false}
 use Rattle.number.specs.Parts.{Each}
-use Rattle.number.proofs.TestLaws.{Test, is-true, is-false, test, not-both}
+use Rattle.number.proofs.TestLaws.{Test, is-true, is-false, test}
 use Rattle.plain.specs.Gaps.{Gap, smaller, best, Among, Ascending}
 
 -- ---- lists of gaps

@@ -1,5 +1,5 @@
 -- The gaps of a heap: the same where the same segments are free, and at every start. Assumes nothing.
-use mathlib.Core.Path.{_≡_, refl, ap, _∙_}
+use mathlib.Core.Path.{_≡_, refl}
 use mathlib.Core.Bool.{Bool, true, false, cond}
 use mathlib.Core.List.{List, [], _∷_, _++_, map}
 use mathlib.Core.Option.{Option, none, some}
@@ -8,7 +8,6 @@ use native.Mathlib.Omega.{arith}
 use native.Mathlib.Nat.{zero-add}
 use lib.ListN.{length, take}
 use lib.Dec.{leb}
-use Rattle.number.proofs.TestLaws.{Test, is-true, is-false, test}
 use Rattle.plain.specs.Gaps.{Gap, ended, gapsAfter, smaller, best}
 use Rattle.plain.specs.Lift.{gapUp}
 

@@ -1,6 +1,5 @@
 -- `heap_gap::needed` meets its contract. Assumes nothing.
 use mathlib.Core.Path.{refl}
-use native.Mathlib.Omega.{arith}
 use Rattle.plain.specs.Areas.{segments, placeLength}
 use borrow.Author.Needs.{needs}
 use Rattle.heap_gap.proofs.needed.Statement.{statement}
@@ -17,7 +16,7 @@ add-result-2 c = search needs
 
 returns : tie.Need-returns
 unfolding placeLength segments
-returns c = (refl, omega arith)
+returns c = refl
 
 pub needed-spec : {M : Type 1} → statement M
 needed-spec = tie.close (tie.spec add-result mul-result add-result-2 returns)

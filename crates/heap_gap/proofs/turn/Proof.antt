@@ -1,6 +1,5 @@
 -- `heap_gap::turn` meets its contract. Assumes nothing.
 use mathlib.Core.Path.{_∙_}
-use native.Mathlib.Omega.{arith}
 use borrow.Author.Needs.{needs}
 use borrow.Author.Tests.{eq-eqb, ne-eqb}
 use Rattle.heap_gap.proofs.turn.Statement.{statement}

@@ -1,5 +1,5 @@
 -- `heap_gaps::choose` meets its contract: the whole scan is what the gaps that are left add to what was looked at. Assumes nothing.
-use mathlib.Core.Path.{_≡_, refl, sym, ap, _∙_, subst}
+use mathlib.Core.Path.{refl, sym, ap, _∙_, subst}
 use Prim.Native.Nat.{ℕ, _+_, _-_, _≤_}
 use native.Mathlib.Omega.{arith}
 use denote.Ref.{now}
@@ -39,7 +39,7 @@ returns c =
     let a = m .before .before .before .args in
     let k = m .loop .inv in (
       kept-full (now (a .heap)) (m .before .needed .result) (a .budget) (m .loop .g) (m .loop .p) k (c .if1 .taken)
-          ∙ ap (λ (n : ℕ). choice n (a .budget) (now (a .heap))) (m .before .needed .ensures .0),
+          ∙ ap (λ (n : ℕ). choice n (a .budget) (now (a .heap))) (m .before .needed .ensures),
       omega (arith, k .before, k .inside),
     )
 
@@ -90,7 +90,7 @@ returns-2 c =
     let a = c .before .before .before .before .before .before .before .args in
     let n = c .before .before .before .before .before .needed in
     let l = kept-last (now (a .heap)) (n .result) (a .budget) (m .loop2 .g) (m .loop2 .p) (m .loop2 .inv) (omega arith) in (
-      ap choiceOf (c .ended .ensures) ∙ l .0 ∙ ap (λ (x : ℕ). choice x (a .budget) (now (a .heap))) (n .ensures .0),
+      ap choiceOf (c .ended .ensures) ∙ l .0 ∙ ap (λ (x : ℕ). choice x (a .budget) (now (a .heap))) (n .ensures),
       subst (λ (r : Scan). r .start + r .bytes ≤ length (now (a .heap))) (sym (c .ended .ensures)) (l .1),
     )
 

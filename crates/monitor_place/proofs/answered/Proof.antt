@@ -1,5 +1,5 @@
 -- `monitor_place::answered` meets its contract. Assumes nothing.
-use mathlib.Core.Path.{refl, _∙_}
+use mathlib.Core.Path.{_∙_}
 use native.Mathlib.Omega.{arith}
 use borrow.Author.Needs.{needs}
 use borrow.Author.Tests.{eq-eqb, ne-eqb}
@@ -27,7 +27,7 @@ needed-requires c κs = search needs
 sub-left : tie.Need-sub-left
 sub-left c =
     let s = c .before .before .before .before .before in
-    omega (arith, c .needed .ensures .0, s .pre .holds (c .before .before .before .if1 .left))
+    omega (arith, c .needed .ensures, s .pre .holds (c .before .before .before .if1 .left))
 
 cast-surplus : tie.Need-cast-surplus
 cast-surplus c = search needs
@@ -35,7 +35,7 @@ cast-surplus c = search needs
 returns-2 : tie.Need-returns-2
 returns-2 c =
     let s = c .before .before .before .before .before in
-    rw (c .before .to-address .ensures, c .needed .ensures .0, ne-eqb (s .args .g .bytes) 0 (c .before .before .before .if1 .left))
+    rw (c .before .to-address .ensures, c .needed .ensures, ne-eqb (s .args .g .bytes) 0 (c .before .before .before .if1 .left))
 
 pub answered-spec : {M : Type 1} → statement M
 answered-spec =
