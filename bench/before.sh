@@ -33,14 +33,17 @@ objcopy "$align" target/staticlib/libmonitor_c.a "$out/libmonitor_this.a"
 
 # A call that it did not have yet gets a stub, so that the program links; no case makes it.
 comm -13 <(symbols "$archive") <(symbols target/staticlib/libmonitor_c.a) > "$out/before-lacks"
-sed -i '/^block_monitor_begin$/d; /^block_monitor_access$/d' "$out/before-lacks"
+sed -i '/^block_monitor_begin$/d; /^block_monitor_access$/d; /^block_monitor_remove$/d' "$out/before-lacks"
 sed 's/.*/void before_&(void) { __builtin_trap(); }/' "$out/before-lacks" > "$out/before-stubs.c"
+has() { grep -qx "$1 before_$1" "$out/before-symbols"; }
 # Before S-5 each way to record was a function of its own, valid was told less, and there were no literals.
-if ! symbols "$archive" | grep -qx block_monitor_begin; then
+if ! has block_monitor_begin; then
   echo literals >> "$out/before-lacks"
   cat bench/before_begin.c >> "$out/before-stubs.c"
 fi
-if [ -s "$out/before-lacks" ]; then
+# Before S-7 free took stack blocks too.
+if ! has block_monitor_remove; then cat bench/before_remove.c >> "$out/before-stubs.c"; fi
+if [ -s "$out/before-stubs.c" ]; then
   cc -O2 -c "$out/before-stubs.c" -o "$out/before-stubs.o"
   ar r "$out/libmonitor_before.a" "$out/before-stubs.o"
 fi

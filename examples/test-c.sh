@@ -84,13 +84,17 @@ int main()
     uint32_t readable;
     if (monitor_record_literal(&monitor, 24, 4) != BLOCK_MONITOR_ACCEPTED || monitor_valid_read(&monitor, 24, 4, 24, &readable) != BLOCK_MONITOR_ACCEPTED)
         return 1;
-    if (readable != 1 || monitor_clear(&monitor) != BLOCK_MONITOR_ACCEPTED)
+    if (readable != 1 || monitor_free(&monitor, 24) != BLOCK_MONITOR_NOT_HEAP || monitor_remove(&monitor, 24) != BLOCK_MONITOR_ACCEPTED)
+        return 1;
+    if (monitor_clear(&monitor) != BLOCK_MONITOR_ACCEPTED)
         return 1;
     struct block_monitor_room room;
     if (monitor_place(&monitor, 8, 1, &room) != BLOCK_MONITOR_ACCEPTED || room.base != 16 || room.gaps != 1 || room.surplus != 0)
         return 1;
     struct block_monitor_origins origins = {{8, 16, 24, 16}, heap, 16, primary, 16, secondary, 16, heap_cells, 32, stack_cells, 32, 1};
     if (monitor_origins_record(&origins, 16, 4) != BLOCK_MONITOR_ACCEPTED || origins.counter != 2)
+        return 1;
+    if (monitor_origins_record(&origins, 24, 4) != BLOCK_MONITOR_ACCEPTED || monitor_origins_remove(&origins, 24) != BLOCK_MONITOR_ACCEPTED)
         return 1;
     return monitor_origins_point(&origins, 16, 16) == BLOCK_MONITOR_ACCEPTED ? 0 : 1;
 }
@@ -146,7 +150,7 @@ test_lesson() {
     for built in "plain first_fit.c" "plain placed.c" "origins first_fit.c"; do
         read -r form allocator <<<"$built"
         lesson "$form" "$allocator" 0 lesson.expected 0 "$@"
-        for n in 1 2 3 4 5 6 7 9; do
+        for n in 1 2 3 4 5 6 7 9 10; do
             lesson "$form" "$allocator" $n mistake-$n.expected 1 "$@"
         done
         case $form in

@@ -30,24 +30,25 @@ extern "C" {
 
 /*
  * What a call returns: accepted, or why it is refused. A refused call stores zero in every field and alters no shadow byte. The lowest number
- * that holds is returned, but 8 comes before 7. Where a number is said to be record's, it is that of record_written and record_literal as well,
- * but that a heap base is 4 of the last. 11 and 12 are of the form with origins alone, 14 of the plain form alone. Later numbers may be added:
- * take any that is not 0 for a refusal.
+ * that holds is returned, but 8 comes before 7, and 15 before both. Where a number is said to be record's, it is that of record_written and
+ * record_literal as well, but that a heap base is 4 of the last. 11 and 12 are of the form with origins alone, 14 of the plain form alone. Later
+ * numbers may be added: take any that is not 0 for a refusal.
  */
 enum block_monitor_number {
     BLOCK_MONITOR_ACCEPTED = 0,
     BLOCK_MONITOR_BAD_MAP = 1,       /* the map breaks a rule */
     BLOCK_MONITOR_SHADOW_LENGTH = 2, /* a shadow is not as long as its area; with origins: or cells are not twice as long */
     BLOCK_MONITOR_NO_BYTES = 3,      /* length or n is 0 */
-    BLOCK_MONITOR_OUTSIDE = 4,       /* in neither area, but for free of 0; record: block or header does not fit; record_literal: in the heap */
+    BLOCK_MONITOR_OUTSIDE = 4,       /* in neither area, but for free of 0; record: no room for block or header; record_literal, remove: in the heap */
     BLOCK_MONITOR_UNALIGNED = 5,     /* record: the heap base is no multiple of 8; with origins: or the stack base none of 4 */
     BLOCK_MONITOR_OCCUPIED = 6,      /* record: the place, with its header, is not free */
-    BLOCK_MONITOR_NO_BLOCK = 7,      /* no block there; free: not its first byte; written: not all in one; next: none follows */
+    BLOCK_MONITOR_NO_BLOCK = 7,      /* no block there; free, remove: not its first byte; written: not all in one; next: none follows */
     BLOCK_MONITOR_DAMAGED = 8,       /* a shadow was overwritten: what is met there is no block's state; audit: no list's image */
     BLOCK_MONITOR_NO_POINTER = 11,   /* point, copy, live: no cell there: no multiple of 4, or its four bytes are not in one block */
     BLOCK_MONITOR_NO_ORIGIN = 12,    /* record: the counter is no origin, 1 to 4,294,967,295 */
     BLOCK_MONITOR_LITERAL = 13,      /* written: the block is a literal, which may only be read */
-    BLOCK_MONITOR_NO_GAP = 14        /* place: no gap that was looked at holds header and block */
+    BLOCK_MONITOR_NO_GAP = 14,       /* place: no gap that was looked at holds header and block */
+    BLOCK_MONITOR_NOT_HEAP = 15      /* free: in the stack area, whose blocks are removed and never freed */
 };
 
 /* How a block begins. */
@@ -74,11 +75,16 @@ uint32_t block_monitor_begin(const uint32_t map[4], uint8_t *heap, size_t heap_l
                              uint8_t *secondary, size_t secondary_length, uint32_t base, uint32_t length, uint8_t how, uint32_t fields[4]);
 
 /*
- * The block with this base ends. With 0, the null pointer's address, it is accepted after 1 and 2 and does nothing, as C's free does. So no
- * other pointer may be given as 0; every other address in neither area is refused.
+ * The heap block with this base ends. C forbids freeing automatic objects: every address in the stack area is refused, and the block there stays.
+ * With 0, the null pointer's address, it is accepted after 1 and 2 and does nothing, as C's free does. So no other pointer may be given as 0;
+ * every other address in neither area is refused.
  */
-uint32_t block_monitor_free(const uint32_t map[4], uint8_t *heap, size_t heap_length, uint8_t *primary, size_t primary_length,
-                            uint8_t *secondary, size_t secondary_length, uint32_t base, uint32_t fields[4]);
+uint32_t block_monitor_free(const uint32_t map[4], uint8_t *heap, size_t heap_length, const uint8_t *primary, size_t primary_length,
+                            const uint8_t *secondary, size_t secondary_length, uint32_t base, uint32_t fields[4]);
+
+/* The stack block with this base ends, as an automatic object does; a literal too. Every address outside the stack area is refused, 0 as well. */
+uint32_t block_monitor_remove(const uint32_t map[4], const uint8_t *heap, size_t heap_length, uint8_t *primary, size_t primary_length,
+                              uint8_t *secondary, size_t secondary_length, uint32_t base, uint32_t fields[4]);
 
 /* n bytes of one block, which is no literal, count as written from now on. */
 uint32_t block_monitor_written(const uint32_t map[4], uint8_t *heap, size_t heap_length, uint8_t *primary, size_t primary_length,
@@ -230,6 +236,12 @@ static inline uint32_t monitor_free(const struct block_monitor *monitor, uint32_
     return block_monitor_free(BLOCK_MONITOR_LENT(monitor), base, fields);
 }
 
+static inline uint32_t monitor_remove(const struct block_monitor *monitor, uint32_t base)
+{
+    uint32_t fields[4];
+    return block_monitor_remove(BLOCK_MONITOR_LENT(monitor), base, fields);
+}
+
 static inline uint32_t monitor_written(const struct block_monitor *monitor, uint32_t address, uint32_t n)
 {
     uint32_t fields[4];
@@ -315,7 +327,7 @@ static inline const char *monitor_words(uint32_t number)
     case BLOCK_MONITOR_BAD_MAP: return "the map breaks a rule";
     case BLOCK_MONITOR_SHADOW_LENGTH: return "a shadow of the wrong length";
     case BLOCK_MONITOR_NO_BYTES: return "a length of 0";
-    case BLOCK_MONITOR_OUTSIDE: return "outside the areas, or no room there";
+    case BLOCK_MONITOR_OUTSIDE: return "in no area that the call takes, or no room there";
     case BLOCK_MONITOR_UNALIGNED: return "a base that is not aligned";
     case BLOCK_MONITOR_OCCUPIED: return "the place is not free";
     case BLOCK_MONITOR_NO_BLOCK: return "no such block";
@@ -324,6 +336,7 @@ static inline const char *monitor_words(uint32_t number)
     case BLOCK_MONITOR_NO_ORIGIN: return "the origins are used up";
     case BLOCK_MONITOR_LITERAL: return "a literal may only be read";
     case BLOCK_MONITOR_NO_GAP: return "no gap fits";
+    case BLOCK_MONITOR_NOT_HEAP: return "only heap blocks may be freed";
     default: return "an unknown number";
     }
 }

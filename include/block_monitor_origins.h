@@ -46,10 +46,18 @@ uint32_t block_monitor_origins_begin(const uint32_t map[4], uint8_t *heap, size_
                                      uint8_t *stack_cells, size_t stack_cells_length, uint32_t base, uint32_t length, uint8_t how,
                                      uint64_t *counter, uint32_t fields[4]);
 
-/* The block with this base ends, and with it each pointer that is kept in it. With 0 it does nothing, as in the plain form. */
-uint32_t block_monitor_origins_free(const uint32_t map[4], uint8_t *heap, size_t heap_length, uint8_t *primary, size_t primary_length,
-                                    uint8_t *secondary, size_t secondary_length, uint8_t *heap_cells, size_t heap_cells_length,
-                                    uint8_t *stack_cells, size_t stack_cells_length, uint32_t base, uint32_t fields[4]);
+/*
+ * The heap block with this base ends, and with it each pointer that is kept in it. Addresses in the stack area are refused, and with 0 it does
+ * nothing, as in the plain form.
+ */
+uint32_t block_monitor_origins_free(const uint32_t map[4], uint8_t *heap, size_t heap_length, const uint8_t *primary, size_t primary_length,
+                                    const uint8_t *secondary, size_t secondary_length, uint8_t *heap_cells, size_t heap_cells_length,
+                                    const uint8_t *stack_cells, size_t stack_cells_length, uint32_t base, uint32_t fields[4]);
+
+/* The stack block with this base ends, a literal too, and with it each pointer that is kept in it. Addresses outside the stack area are refused. */
+uint32_t block_monitor_origins_remove(const uint32_t map[4], const uint8_t *heap, size_t heap_length, uint8_t *primary, size_t primary_length,
+                                      uint8_t *secondary, size_t secondary_length, const uint8_t *heap_cells, size_t heap_cells_length,
+                                      uint8_t *stack_cells, size_t stack_cells_length, uint32_t base, uint32_t fields[4]);
 
 /* n bytes of one block, which is no literal, count as written from now on. */
 uint32_t block_monitor_origins_written(const uint32_t map[4], uint8_t *heap, size_t heap_length, uint8_t *primary, size_t primary_length,
@@ -188,6 +196,12 @@ static inline uint32_t monitor_origins_free(const struct block_monitor_origins *
 {
     uint32_t fields[4];
     return block_monitor_origins_free(BLOCK_MONITOR_ORIGINS_LENT(monitor), base, fields);
+}
+
+static inline uint32_t monitor_origins_remove(const struct block_monitor_origins *monitor, uint32_t base)
+{
+    uint32_t fields[4];
+    return block_monitor_origins_remove(BLOCK_MONITOR_ORIGINS_LENT(monitor), base, fields);
 }
 
 static inline uint32_t monitor_origins_written(const struct block_monitor_origins *monitor, uint32_t address, uint32_t n)

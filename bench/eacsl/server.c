@@ -22,7 +22,7 @@
 
 void *malloc(size_t size);
 
-enum kind { RECORD = 2, RELEASE, WRITTEN, ASK, VALID, INITIALISED, RECORD_WRITTEN = 10, VALID_READ = 15 };
+enum kind { RECORD = 2, FREE, WRITTEN, ASK, VALID, INITIALISED, RECORD_WRITTEN = 10, VALID_READ = 15, REMOVE };
 
 struct op {
   uint32_t kind, heap, offset, n, from;
@@ -84,13 +84,6 @@ static void record_written(const struct call *c) {
   __e_acsl_initialize(c->p, c->n);
 }
 
-static void release(const struct call *c) {
-  if (c->heap)
-    rtl_delete_heap(c->p);
-  else
-    __e_acsl_delete_block(c->p);
-}
-
 /* What ask tells takes four calls here. */
 static uint64_t ask(const struct call *c) {
   size_t into = (size_t)(c->p - (char *)__e_acsl_base_addr(c->p));
@@ -107,8 +100,11 @@ static uint64_t any(const struct call *c) {
   case RECORD_WRITTEN:
     record_written(c);
     return 0;
-  case RELEASE:
-    release(c);
+  case FREE:
+    rtl_delete_heap(c->p);
+    return 0;
+  case REMOVE:
+    __e_acsl_delete_block(c->p);
     return 0;
   case WRITTEN:
     __e_acsl_initialize(c->p, c->n);
@@ -156,11 +152,11 @@ uint64_t bench_measured(const struct list *list, int uniform) {
   case RECORD_WRITTEN:
     EACH(record_written(c);)
     break;
-  case RELEASE:
-    if (heap)
-      EACH(rtl_delete_heap(c->p);)
-    else
-      EACH(__e_acsl_delete_block(c->p);)
+  case FREE:
+    EACH(rtl_delete_heap(c->p);)
+    break;
+  case REMOVE:
+    EACH(__e_acsl_delete_block(c->p);)
     break;
   case WRITTEN:
     EACH(__e_acsl_initialize(c->p, c->n);)
@@ -186,7 +182,10 @@ static void make(const struct list *list) { EACH(any(c);) }
 /* The blocks that a state leaves, so that the next state can forget them. */
 static void load(const char *path) {
   for (size_t i = 0; i < live_count; i++)
-    release(&(struct call){RELEASE, (uint32_t)live_heap[i], live[i], 0, NULL});
+    if (live_heap[i])
+      rtl_delete_heap(live[i]);
+    else
+      __e_acsl_delete_block(live[i]);
   live_count = 0;
   read_list(path, &setup);
   make(&setup);

@@ -6,6 +6,7 @@ use model::map::Map;
 use model::plain::List;
 use model::program::{decode, Record};
 use model::random::Random;
+use model::recorded::with_removals;
 
 use crate::lists::Calls;
 use crate::places::{self, Room};
@@ -205,7 +206,7 @@ fn markings(filled: &State, roomy: &State) -> Vec<Case> {
         let title = format!("written of 1, byte by byte, {}", room.area);
         let mut case = Case::new(title, Group::Marking, ROOMY, each.collect());
         case.before = vec![Call::Record { base, length }];
-        case.after = vec![Call::Free { base }];
+        case.after = vec![roomy.to_end(base)];
         cases.push(case);
     }
     cases
@@ -236,8 +237,11 @@ fn wholes(state: &State) -> Vec<Case> {
     vec![audit, clear]
 }
 
-/// A trace's map and its calls, but for the audit, which no peer of E-ACSL's has.
-fn read_trace(mut file: &[u8]) -> (Map, Vec<Call>) {
+/// A trace's map and its calls, but for the audit, which no peer of E-ACSL's has. The traces are older than remove: where they free a stack
+/// address, that is the remove of now.
+fn read_trace(file: &[u8]) -> (Map, Vec<Call>) {
+    let converted = with_removals(file);
+    let mut file = &converted[..];
     let mut map = None;
     let mut calls = Vec::new();
     while let Some((record, rest)) = decode(file) {
@@ -260,9 +264,29 @@ fn replay(state: &State, number: usize, calls: Vec<Call>) -> Case {
     let count = thousands(calls.len() as u32);
     let title = format!("replay of {} ({count} calls)", state.title);
     let mut case = Case::new(title, Group::Replay, number, calls);
-    case.after = left
-        .iter()
-        .map(|block| Call::Free { base: block.base })
-        .collect();
+    case.after = left.iter().map(|block| state.to_end(block.base)).collect();
     case
+}
+
+#[cfg(test)]
+mod tests {
+    use super::*;
+
+    /// Each call of a replay is accepted, its blocks' ends too, and those after it leave no block.
+    #[test]
+    fn replays_accepted() {
+        let files = [
+            &include_bytes!("../../model/tests/data/sha1.calls")[..],
+            &include_bytes!("../../model/tests/data/sorts.calls")[..],
+        ];
+        let plan = plan(&files.map(|file| ("a trace", file.to_vec())));
+        let replays = plan.cases.iter().filter(|case| case.group == Group::Replay);
+        for case in replays {
+            let mut list = plan.states[case.state].list();
+            for &call in case.timed.iter().chain(&case.after) {
+                assert_eq!(list.step(call).number, 0, "{call:?}");
+            }
+            assert!(list.listed().is_empty());
+        }
+    }
 }

@@ -22,7 +22,7 @@ pub fn plan() -> Plan {
     cases.extend(placed.filter(|case| {
         matches!(
             case.calls,
-            Calls::Records(_) | Calls::RecordsLiteral(_) | Calls::Frees(_)
+            Calls::Records(_) | Calls::RecordsLiteral(_) | Calls::Frees(_) | Calls::Removes(_)
         )
     }));
     Plan {

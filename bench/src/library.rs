@@ -61,6 +61,7 @@ fn symbol(call: &Call) -> &'static str {
         Call::Record { .. } | Call::RecordWritten { .. } => "block_monitor_begin",
         Call::RecordLiteral { .. } | Call::ValidRead { .. } => LITERALS,
         Call::Free { .. } => "block_monitor_free",
+        Call::Remove { .. } => "block_monitor_remove",
         Call::Written { .. } => "block_monitor_written",
         Call::Ask { .. } => "block_monitor_ask",
         Call::Valid { .. } => "block_monitor_access",
@@ -73,8 +74,8 @@ fn symbol(call: &Call) -> &'static str {
 
 /// Declares the symbols of a build and makes a side of it, with the symbols that it lacks: in their place stand stubs (before.sh).
 macro_rules! build {
-    ($side:ident, $clear:literal, $begin:literal, $free:literal, $written:literal, $ask:literal, $access:literal, $initialised:literal,
-     $next:literal, $audit:literal, $place:literal) => {
+    ($side:ident, $clear:literal, $begin:literal, $free:literal, $remove:literal, $written:literal, $ask:literal, $access:literal,
+     $initialised:literal, $next:literal, $audit:literal, $place:literal) => {
         pub mod $side {
             use super::*;
 
@@ -86,7 +87,9 @@ macro_rules! build {
                 #[link_name = $begin]
                 fn begin(map: *const Four, h: *mut u8, hl: usize, p: *mut u8, pl: usize, s: *mut u8, sl: usize, base: u32, n: u32, how: u8, f: *mut Four) -> u32;
                 #[link_name = $free]
-                fn free(map: *const Four, h: *mut u8, hl: usize, p: *mut u8, pl: usize, s: *mut u8, sl: usize, base: u32, f: *mut Four) -> u32;
+                fn free(map: *const Four, h: *mut u8, hl: usize, p: *const u8, pl: usize, s: *const u8, sl: usize, base: u32, f: *mut Four) -> u32;
+                #[link_name = $remove]
+                fn remove(map: *const Four, h: *const u8, hl: usize, p: *mut u8, pl: usize, s: *mut u8, sl: usize, base: u32, f: *mut Four) -> u32;
                 #[link_name = $written]
                 fn written(map: *const Four, h: *mut u8, hl: usize, p: *mut u8, pl: usize, s: *mut u8, sl: usize, a: u32, n: u32, f: *mut Four) -> u32;
                 #[link_name = $ask]
@@ -126,6 +129,7 @@ macro_rules! build {
                             Call::RecordWritten { base, length } => begin(m, h, hl, p, pl, s, sl, base, length, WRITTEN, f),
                             Call::RecordLiteral { base, length } => begin(m, h, hl, p, pl, s, sl, base, length, LITERAL, f),
                             Call::Free { base } => free(m, h, hl, p, pl, s, sl, base, f),
+                            Call::Remove { base } => remove(m, h, hl, p, pl, s, sl, base, f),
                             Call::Written { address, n } => written(m, h, hl, p, pl, s, sl, address, n, f),
                             Call::Ask { address } => ask(m, h, hl, p, pl, s, sl, address, f),
                             Call::Valid { address, n, from } => access(m, h, hl, p, pl, s, sl, address, n, from, true, f),
@@ -194,6 +198,7 @@ build!(
     "block_monitor_clear",
     "block_monitor_begin",
     "block_monitor_free",
+    "block_monitor_remove",
     "block_monitor_written",
     "block_monitor_ask",
     "block_monitor_access",
@@ -209,6 +214,7 @@ build!(
     "before_block_monitor_clear",
     "before_block_monitor_begin",
     "before_block_monitor_free",
+    "before_block_monitor_remove",
     "before_block_monitor_written",
     "before_block_monitor_ask",
     "before_block_monitor_access",

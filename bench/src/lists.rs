@@ -13,6 +13,7 @@ pub enum Calls {
     RecordsWritten(Vec<(u32, u32)>),
     RecordsLiteral(Vec<(u32, u32)>),
     Frees(Vec<u32>),
+    Removes(Vec<u32>),
     Nexts(Vec<u32>),
     Audits(usize),
     Clears(usize),
@@ -46,6 +47,7 @@ impl Calls {
             Call::RecordWritten { .. } => Calls::RecordsWritten(all.map(both).collect()),
             Call::RecordLiteral { .. } => Calls::RecordsLiteral(all.map(both).collect()),
             Call::Free { .. } => Calls::Frees(all.map(first).collect()),
+            Call::Remove { .. } => Calls::Removes(all.map(first).collect()),
             Call::Next { .. } => Calls::Nexts(all.map(first).collect()),
             Call::Audit => Calls::Audits(calls.len()),
             Call::Clear => Calls::Clears(calls.len()),
@@ -100,6 +102,11 @@ impl Calls {
             Calls::Frees(list) => {
                 for &base in list {
                     maker.one(Call::Free { base });
+                }
+            }
+            Calls::Removes(list) => {
+                for &base in list {
+                    maker.one(Call::Remove { base });
                 }
             }
             Calls::Nexts(list) => {

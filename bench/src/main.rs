@@ -228,7 +228,7 @@ mod tests {
         each_case(&gaps::plan(), sides, same);
     }
 
-    /// Both forms record and free alike; each pointer that is asked about is live, each other call of a pointer accepted without an answer.
+    /// Both forms record, free and remove alike; each pointer that is asked about is live, each other call of a pointer accepted without an answer.
     #[test]
     fn forms_agree() {
         each_case(&forms::plan(), forms(), |case, sums| match case.calls {

@@ -30,7 +30,7 @@ struct Part {
 pub struct Memset {
     shadows: Vec<u8>,
     parts: Vec<Part>,
-    /// Whether free zeroes cells too.
+    /// Whether free and remove zero cells too.
     cells: bool,
 }
 
@@ -110,7 +110,7 @@ fn touched(map: Map, list: &mut PlainTree, call: Call, parts: &mut Vec<Part>) {
         Call::Record { base, length }
         | Call::RecordWritten { base, length }
         | Call::RecordLiteral { base, length } => placed(map, base, length, add),
-        Call::Free { base } => placed(
+        Call::Free { base } | Call::Remove { base } => placed(
             map,
             base,
             list.step(Call::Ask { address: base }).fields[1],
@@ -172,9 +172,9 @@ fn placed(map: Map, base: u32, length: u32, mut add: impl FnMut(usize, usize)) {
     }
 }
 
-/// The cells that free zeroes: eight bytes for each four of the block.
+/// The cells that free and remove zero: eight bytes for each four of the block.
 fn cells(map: Map, list: &mut PlainTree, call: Call) -> Option<Part> {
-    let Call::Free { base } = call else {
+    let (Call::Free { base } | Call::Remove { base }) = call else {
         return None;
     };
     let length = list.step(Call::Ask { address: base }).fields[1] as usize;
@@ -237,14 +237,11 @@ mod tests {
     fn freed_cells() {
         let state = roomy(4);
         for (area, block) in [(0, &state.heap_blocks()[3]), (1, &state.stack_blocks()[3])] {
-            let part = cells(
-                state.map,
-                &mut state.list(),
-                Call::Free { base: block.base },
-            );
+            let end = state.to_end(block.base);
+            let part = cells(state.map, &mut state.list(), end);
             let start = [state.map.heap_start, state.map.stack_start][area];
             let first = [262_144, 262_144 + 262_144][area];
-            let part = part.expect("free zeroes cells");
+            let part = part.expect("what ends a block zeroes cells");
             assert_eq!(part.start, first + 2 * (block.base - start) as usize);
             assert_eq!(part.length, 8 * block.length.div_ceil(4) as usize);
         }

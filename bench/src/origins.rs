@@ -40,6 +40,7 @@ const LITERAL: u8 = 2;
 library! {
     block_monitor_origins_begin(base: u32, length: u32, how: u8, counter: *mut u64);
     block_monitor_origins_free(base: u32);
+    block_monitor_origins_remove(base: u32);
     block_monitor_origins_written(address: u32, n: u32);
     block_monitor_origins_point(cell: u32, address: u32);
     block_monitor_origins_copy(to: u32, from: u32);
@@ -100,6 +101,9 @@ impl Origins {
                 on_state!(block_monitor_origins_begin(base, length, LITERAL, counter))
             }
             OriginsCall::Plain(Call::Free { base }) => on_state!(block_monitor_origins_free(base)),
+            OriginsCall::Plain(Call::Remove { base }) => {
+                on_state!(block_monitor_origins_remove(base))
+            }
             OriginsCall::Plain(Call::Written { address, n }) => {
                 on_state!(block_monitor_origins_written(address, n))
             }

@@ -1,4 +1,4 @@
-//! Cases over many blocks of one length: recorded, freed, marked whole, looked at whole.
+//! Cases over many blocks of one length: recorded, freed or removed, marked whole, looked at whole.
 
 use model::call::Call;
 
@@ -47,16 +47,17 @@ impl Room {
 }
 
 /// A call for a block of this base and length.
-type Each = fn(u32, u32) -> Call;
+type Each = fn(&State, u32, u32) -> Call;
 
-const RECORD: Each = |base, length| Call::Record { base, length };
-const RECORD_WRITTEN: Each = |base, length| Call::RecordWritten { base, length };
-const RECORD_LITERAL: Each = |base, length| Call::RecordLiteral { base, length };
-const FREE: Each = |base, _| Call::Free { base };
-const WRITTEN: Each = |address, n| Call::Written { address, n };
-const INITIALISED: Each = |address, n| Call::Initialised { address, n };
+const RECORD: Each = |_, base, length| Call::Record { base, length };
+const RECORD_WRITTEN: Each = |_, base, length| Call::RecordWritten { base, length };
+const RECORD_LITERAL: Each = |_, base, length| Call::RecordLiteral { base, length };
+const END: Each = |state, base, _| state.to_end(base);
+const WRITTEN: Each = |_, address, n| Call::Written { address, n };
+const INITIALISED: Each = |_, address, n| Call::Initialised { address, n };
 
 const BOTH: &[&str] = &["heap", "stack"];
+const HEAP: &[&str] = &["heap"];
 const STACK: &[&str] = &["stack"];
 
 /// A case's words and group, the areas that have it, and what is made on all blocks before, timed and after.
@@ -70,14 +71,15 @@ struct Way(
 );
 
 #[rustfmt::skip]
-const WAYS: [Way; 6] = [
-    Way("written of a whole block", Group::Marking, BOTH, Some(RECORD), WRITTEN, Some(FREE)),
+const WAYS: [Way; 7] = [
+    Way("written of a whole block", Group::Marking, BOTH, Some(RECORD), WRITTEN, Some(END)),
     // All bytes are written, so that every mark is looked at.
-    Way("initialised of a whole block", Group::Marking, BOTH, Some(RECORD_WRITTEN), INITIALISED, Some(FREE)),
-    Way("record", Group::Placing, BOTH, None, RECORD, Some(FREE)),
-    Way("record_written", Group::Placing, BOTH, None, RECORD_WRITTEN, Some(FREE)),
-    Way("record_literal", Group::Placing, STACK, None, RECORD_LITERAL, Some(FREE)),
-    Way("free", Group::Placing, BOTH, Some(RECORD), FREE, None),
+    Way("initialised of a whole block", Group::Marking, BOTH, Some(RECORD_WRITTEN), INITIALISED, Some(END)),
+    Way("record", Group::Placing, BOTH, None, RECORD, Some(END)),
+    Way("record_written", Group::Placing, BOTH, None, RECORD_WRITTEN, Some(END)),
+    Way("record_literal", Group::Placing, STACK, None, RECORD_LITERAL, Some(END)),
+    Way("free", Group::Placing, HEAP, Some(RECORD), END, None),
+    Way("remove", Group::Placing, STACK, Some(RECORD), END, None),
 ];
 
 /// One case for each way, area and length.
@@ -88,7 +90,10 @@ pub fn cases(state: &State) -> Vec<Case> {
         for room in rooms.iter().filter(|room| areas.contains(&room.area)) {
             for length in LENGTHS {
                 let bases = room.bases(length);
-                let each = |call: Each| bases.iter().map(|&base| call(base, length)).collect();
+                let each = |call: Each| {
+                    let calls = bases.iter().map(|&base| call(state, base, length));
+                    calls.collect()
+                };
                 let title = format!("{words} of {}, {}", thousands(length), room.area);
                 let mut case = Case::new(title, group, ROOMY, each(timed));
                 case.before = before.map(each).unwrap_or_default();
@@ -103,6 +108,7 @@ pub fn cases(state: &State) -> Vec<Case> {
 #[cfg(test)]
 mod tests {
     use super::*;
+    use crate::lists::Calls;
     use crate::state::roomy;
     use model::map::Area;
     use model::plain::List;
@@ -145,7 +151,7 @@ mod tests {
         assert_eq!(list.listed(), state.list().listed(), "{title}");
     }
 
-    /// Literals are recorded in the stack alone, where the calls are accepted as those of the other ways are.
+    /// Literals are recorded in the stack alone; blocks are freed in the heap and removed in the stack. All calls are accepted.
     #[test]
     fn areas_and_acceptance() {
         let state = roomy(1);
@@ -157,7 +163,13 @@ mod tests {
         assert_eq!(count("record of"), 2 * LENGTHS.len());
         assert_eq!(count("record_written of"), 2 * LENGTHS.len());
         assert_eq!(count("record_literal of"), LENGTHS.len());
+        assert_eq!(count("free of"), LENGTHS.len());
+        assert_eq!(count("remove of"), LENGTHS.len());
         for case in &cases {
+            let freed = matches!(case.calls, Calls::Frees(_));
+            let removed = matches!(case.calls, Calls::Removes(_));
+            assert_eq!(freed, case.title.starts_with("free of"));
+            assert_eq!(removed, case.title.starts_with("remove of"));
             let mut list = state.list();
             for &call in [&case.before, &case.timed, &case.after]
                 .into_iter()

@@ -128,6 +128,12 @@ impl State {
         list
     }
 
+    /// The call that ends a block: heap blocks are freed, stack blocks removed.
+    pub fn to_end(&self, base: u32) -> Call {
+        let area = self.map.area(base);
+        Call::to_end(area.expect("a block lies in an area"), base)
+    }
+
     pub fn heap_blocks(&self) -> Vec<Block> {
         self.within(HEAP_START, HEAP_END)
     }

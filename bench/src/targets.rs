@@ -53,7 +53,9 @@ pub fn form_targets(index: usize, case: &Case) -> Vec<Target> {
             vec![target("plain", 2.0)]
         }
         Calls::Records(_) if case.title.contains("of 8,") => vec![target("plain", 1.3)],
-        Calls::Frees(_) if case.title.contains("1,024") => vec![target("memset", 4.0)],
+        Calls::Frees(_) | Calls::Removes(_) if case.title.contains("1,024") => {
+            vec![target("memset", 4.0)]
+        }
         _ => Vec::new(),
     }
 }

@@ -76,7 +76,7 @@ pub const KINDS: &[Kind] = &[
         answers: &[],
         told: |f, _| match f[0] {
             0 => "nothing freed: address 0 is the null pointer".to_owned(),
-            base => format!("freed: the block at {base}"),
+            base => format!("freed: the heap block at {base}"),
         },
     },
     Kind {
@@ -180,6 +180,13 @@ pub const KINDS: &[Kind] = &[
             let said = either(a[0], "yes, in one block:", "no, not in one block:");
             format!("{said} {} and {}", range(f[0], f[1]), f[2])
         },
+    },
+    Kind {
+        number: 16,
+        word: "remove",
+        fields: &["base"],
+        answers: &[],
+        told: |f, _| format!("removed: the stack block at {}", f[0]),
     },
 ];
 

@@ -29,10 +29,11 @@ pub const REFUSALS: &[(u32, &[&str], &str)] = &[
         "the pointer's cell is in neither area",
     ),
     (4, &["copy"], "a pointer's cell is in neither area"),
+    (4, &["remove"], "address outside the stack area"),
     (4, &[], "address in neither area"),
     (5, &[], "a heap base must be a multiple of 8"),
     (6, &[], "some shadow byte of the place is not zero"),
-    (7, &["free"], "no block has this base"),
+    (7, &["free", "remove"], "no block has this base"),
     (7, &["written"], "the bytes are not in one block"),
     (7, &["next"], "no block follows"),
     (7, &[], "no block there"),
@@ -62,6 +63,11 @@ pub const REFUSALS: &[(u32, &[&str], &str)] = &[
         13,
         &["written"],
         "the bytes are those of a literal, which may only be read",
+    ),
+    (
+        15,
+        &["free"],
+        "a stack address; only heap blocks are freed, those of the stack are removed",
     ),
 ];
 

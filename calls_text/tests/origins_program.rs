@@ -10,7 +10,7 @@ use std::time::Duration;
 use calls_text::kinds::{Form, ORIGINS_KINDS};
 use common::{
     as_stored, as_the_model, assert_lines, bytes, ends_with_nine, example, examples, from_file,
-    model_run, no_other_length, piped, through_pipe,
+    model_run, no_other_length, piped, recorded, through_pipe,
 };
 use model::generate::{map, Scale};
 use model::map::Map;
@@ -44,6 +44,7 @@ fn stated_examples() {
         ("origins-open-points.txt", 7),
         ("origins.txt", 20),
         ("literals-origins.txt", 24),
+        ("remove-origins.txt", 13),
     ] {
         let text = String::from_utf8(bytes(&format!("model/tests/data/{name}"))).expect("text");
         let mut runs = 0;
@@ -60,13 +61,15 @@ fn stated_examples() {
 /// Calls of the plain form alone: their lines are the plain program's, as long as every base is a multiple of 4.
 #[test]
 fn plain_examples() {
-    for name in ["worked", "statics", "each-kind", "literals"] {
+    for name in ["worked", "statics", "each-kind", "literals", "remove"] {
         as_the_model(FORM, name, &example(name));
     }
     for name in ["sha1", "sorts"] {
-        let calls = bytes(&format!("model/tests/data/{name}.calls"));
-        let output = from_file(FORM, &format!("{name}-origins.calls"), &calls);
-        assert_lines(name, &output, &model_run(FORM, &calls));
+        let as_recorded = bytes(&format!("model/tests/data/{name}.calls"));
+        for calls in [as_recorded, recorded(name).0] {
+            let output = from_file(FORM, &format!("{name}-origins.calls"), &calls);
+            assert_lines(name, &output, &model_run(FORM, &calls));
+        }
     }
 }
 

@@ -13,7 +13,7 @@ fn errors(text: &str) -> String {
 
 #[test]
 fn words_of_the_form_with_origins() {
-    let text = "# remark\n\n  origins  # the form\nmap 1 2 3 4\npoint 5 6\ncopy 7 8\nlive 9 0xa\nrecord 11 12\nrecord_literal 13 14\nvalid_read 15 16 17\n";
+    let text = "# remark\n\n  origins  # the form\nmap 1 2 3 4\npoint 5 6\ncopy 7 8\nlive 9 0xa\nrecord 11 12\nrecord_literal 13 14\nvalid_read 15 16 17\nremove 18\n";
     let read = parsed("x", text);
     assert_eq!(read.form, Form::Origins);
     let records = [
@@ -24,6 +24,7 @@ fn words_of_the_form_with_origins() {
         encode(2, &[11, 12]),
         encode(14, &[13, 14]),
         encode(15, &[15, 16, 17]),
+        encode(16, &[18]),
     ];
     assert_eq!(read.file, records.concat());
     let alone = parsed("x", "origins");
@@ -51,7 +52,7 @@ fn the_form_is_said_first() {
         errors("origins\nlive 8192 x"),
         "x.txt:2: live, address: `x` is no number (decimal, or hexadecimal after 0x)"
     );
-    let words = "map, record, free, written, ask, valid, initialised, next, audit, record_written, record_literal, valid_read, point, copy, live, raw";
+    let words = "map, record, free, written, ask, valid, initialised, next, audit, record_written, record_literal, valid_read, remove, point, copy, live, raw";
     assert_eq!(
         errors("origins\npiont 1 2"),
         format!("x.txt:2: unknown word `piont`; the words are {words}")
@@ -69,7 +70,7 @@ fn kinds_of_the_other_form_do_not_decode() {
         assert_eq!(written, format!("origins\n{} 1 2\n", kind.word));
         assert_eq!(none, None);
     }
-    let (written, stop) = text(Form::Origins, &encode(16, &[1]));
-    assert_eq!(stop.expect("no kind").why, "kind 16 is unknown");
+    let (written, stop) = text(Form::Origins, &encode(17, &[1]));
+    assert_eq!(stop.expect("no kind").why, "kind 17 is unknown");
     assert!(written.starts_with("origins\n# record 1 at byte 0 does not decode"));
 }

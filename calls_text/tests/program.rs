@@ -5,7 +5,7 @@ mod common;
 use calls_text::kinds::{Form, KINDS};
 use common::{
     as_stored, as_the_model, assert_lines, bytes, ends_with_nine, examples, from_file,
-    no_other_length, piped,
+    no_other_length, piped, recorded,
 };
 use model::notation::Example;
 
@@ -18,17 +18,19 @@ fn stored_examples() {
     }
 }
 
+/// With remove for free of stack addresses the lines are those that were recorded; as recorded, those of the model.
 #[test]
 fn traces() {
     for name in ["sha1", "sorts"] {
-        let calls = bytes(&format!("model/tests/data/{name}.calls"));
-        let expected = bytes(&format!("model/tests/data/{name}.expected"));
+        let (calls, expected) = recorded(name);
         assert_lines(
             name,
             &from_file(FORM, &format!("{name}.calls"), &calls),
             &expected,
         );
         assert_lines(name, &piped(FORM, &calls), &expected);
+        let before = bytes(&format!("model/tests/data/{name}.calls"));
+        as_the_model(FORM, &format!("{name} as recorded"), &before);
     }
 }
 
@@ -41,6 +43,7 @@ fn stated_examples() {
         ("free-null.txt", 21),
         ("literals-open-points.txt", 4),
         ("literals.txt", 24),
+        ("remove.txt", 21),
     ] {
         let text = String::from_utf8(bytes(&format!("model/tests/data/{name}"))).expect("text");
         let mut runs = 0;

@@ -6,7 +6,7 @@ use calls_text::kinds::{Form, KINDS, ORIGINS_KINDS};
 use calls_text::refusals::refusal;
 use calls_text::show::show;
 use calls_text::text::Parsed;
-use common::{bytes, examples, meaning, shown};
+use common::{bytes, examples, meaning, recorded, shown};
 
 #[test]
 fn accepted_lines() {
@@ -18,7 +18,7 @@ fn accepted_lines() {
         meaning("record 4104 20", "2 0"),
         "recorded: a block at 4104 of 20 bytes"
     );
-    assert_eq!(meaning("free 4104", "3 0"), "freed: the block at 4104");
+    assert_eq!(meaning("free 4104", "3 0"), "freed: the heap block at 4104");
     assert_eq!(
         meaning("free 0", "3 0"),
         "nothing freed: address 0 is the null pointer"
@@ -137,6 +137,9 @@ fn lines_that_cannot_be_right() {
         ("record_literal 8192 3", "14 0 1\n"),
         ("valid_read 8192 3 8192", "6 0 1\n"),
         ("valid_read 8192 3 8192", "15 0\n"),
+        ("remove 8192", "3 0\n"),
+        ("remove 8192", "16 0 1\n"),
+        ("free 8192", "16 0\n"),
         ("", "9\n"),
         ("raw 00", ""),
         ("raw 00", "9 1\n"),
@@ -168,25 +171,20 @@ fn remarks_stand_before_their_records() {
 /// No stored output has a line without a meaning, so every number that arises has its words.
 #[test]
 fn every_stored_output_has_meanings() {
-    let mut files = examples(Form::Plain);
-    files.retain(|(name, _)| name != "empty");
-    let traces = ["sha1", "sorts"].map(|name| format!("model/tests/data/{name}"));
-    let outputs = files
-        .iter()
-        .map(|(name, _)| format!("examples/calls/{name}"));
-    let outputs: Vec<String> = outputs.chain(traces.clone()).collect();
-    let mut inputs: Vec<Vec<u8>> = files.into_iter().map(|(_, file)| file).collect();
-    inputs.extend(traces.map(|name| bytes(&format!("{name}.calls"))));
-    for (name, file) in outputs.iter().zip(inputs) {
-        has_meanings(Form::Plain, name, file);
+    for form in [Form::Plain, Form::Origins] {
+        for (name, file) in examples(form) {
+            let lines = bytes(&format!("examples/calls/{name}.expected"));
+            has_meanings(form, &name, file, lines);
+        }
     }
-    for (name, file) in examples(Form::Origins) {
-        has_meanings(Form::Origins, &format!("examples/calls/{name}"), file);
+    for name in ["sha1", "sorts"] {
+        let (file, lines) = recorded(name);
+        has_meanings(Form::Plain, name, file, lines);
     }
 }
 
-fn has_meanings(form: Form, name: &str, file: Vec<u8>) {
-    let output = String::from_utf8(bytes(&format!("{name}.expected"))).expect("lines are text");
+fn has_meanings(form: Form, name: &str, file: Vec<u8>, lines: Vec<u8>) {
+    let output = String::from_utf8(lines).expect("lines are text");
     let remarks = Vec::new();
     let input = Parsed {
         form,
@@ -206,7 +204,7 @@ fn words_and_numbers_are_told_apart() {
         };
         assert_eq!(Form::Origins.kinds().filter(same).count(), 1, "row {place}");
     }
-    assert_eq!(KINDS.len() + ORIGINS_KINDS.len(), 15);
+    assert_eq!(KINDS.len() + ORIGINS_KINDS.len(), 16);
 }
 
 #[test]

@@ -32,7 +32,7 @@ fn round_trip(form: Form, file: &[u8]) -> String {
 
 #[test]
 fn each_word_is_its_record() {
-    let file = calls("x", "map 1 2 3 4\nrecord 5 6\nfree 7\nwritten 8 9\nask 10\nvalid 11 12 13\ninitialised 14 15\nnext 16\naudit\nrecord_written 17 18\nrecord_literal 19 20\nvalid_read 21 22 23");
+    let file = calls("x", "map 1 2 3 4\nrecord 5 6\nfree 7\nwritten 8 9\nask 10\nvalid 11 12 13\ninitialised 14 15\nnext 16\naudit\nrecord_written 17 18\nrecord_literal 19 20\nvalid_read 21 22 23\nremove 24");
     let mut expected = encode(1, &[1, 2, 3, 4]);
     expected.extend(encode(2, &[5, 6]));
     expected.extend(encode(3, &[7]));
@@ -45,6 +45,7 @@ fn each_word_is_its_record() {
     expected.extend(encode(10, &[17, 18]));
     expected.extend(encode(14, &[19, 20]));
     expected.extend(encode(15, &[21, 22, 23]));
+    expected.extend(encode(16, &[24]));
     assert_eq!(file, expected);
 }
 
@@ -80,7 +81,10 @@ fn messages_name_file_and_line() {
         errors("valid_read 8192 4"),
         "x.txt:1: valid_read takes 3 numbers (address, n, from), got 2"
     );
-    assert_eq!(errors("free"), "x.txt:1: free takes 1 number (base), got 0");
+    for word in ["free", "remove"] {
+        let expected = format!("x.txt:1: {word} takes 1 number (base), got 0");
+        assert_eq!(errors(word), expected);
+    }
     assert_eq!(
         errors("audit 1 2"),
         "x.txt:1: audit takes no numbers, got 2"
@@ -91,7 +95,7 @@ fn messages_name_file_and_line() {
     );
     assert_eq!(
         errors("# x\nrecrod 1 2"),
-        "x.txt:2: unknown word `recrod`; the words are map, record, free, written, ask, valid, initialised, next, audit, record_written, record_literal, valid_read, raw"
+        "x.txt:2: unknown word `recrod`; the words are map, record, free, written, ask, valid, initialised, next, audit, record_written, record_literal, valid_read, remove, raw"
     );
     assert_eq!(
         errors("ask 4294967296"),
@@ -128,7 +132,7 @@ fn every_bad_line_has_its_message() {
 
 #[test]
 fn back_to_text() {
-    let written = "map 4096 64 8192 32\nrecord 4104 20\nfree 4104\nwritten 1 2\nask 3\nvalid 4 5 6\ninitialised 7 8\nnext 9\naudit\nrecord_written 10 11\nrecord_literal 12 13\nvalid_read 14 15 16\n";
+    let written = "map 4096 64 8192 32\nrecord 4104 20\nfree 4104\nwritten 1 2\nask 3\nvalid 4 5 6\ninitialised 7 8\nnext 9\naudit\nrecord_written 10 11\nrecord_literal 12 13\nvalid_read 14 15 16\nremove 17\n";
     let plain = |file: &[u8]| text(Form::Plain, file);
     assert_eq!(plain(&calls("x", written)), (written.to_owned(), None));
     assert_eq!(plain(&[]), (String::new(), None));
@@ -167,7 +171,11 @@ fn what_does_not_decode_is_named() {
         message("its length is 12, that of valid_read is 16")
     );
     assert_eq!(why(&encode(11, &[1, 2])), message("kind 11 is unknown"));
-    assert_eq!(why(&encode(16, &[1])), message("kind 16 is unknown"));
+    assert_eq!(
+        why(&encode(16, &[1, 2])),
+        message("its length is 12, that of remove is 8")
+    );
+    assert_eq!(why(&encode(17, &[1])), message("kind 17 is unknown"));
     assert_eq!(
         why(&[12, 0, 2, 0, 7]),
         message("the file ends after 5 of its 12 bytes")

@@ -139,29 +139,53 @@ void check_literal(const void *pointer, uint32_t length, struct place where)
     must_be_recorded(FORM(record_literal)(&monitor, base, length), base, length, where);
 }
 
-void check_free(const char *what, const void *pointer, struct place where)
+/* The block that holds an address, to be remembered when it has ended; no block has length 0. */
+static struct block_monitor_block block_at(uint32_t address)
 {
-    uint32_t address = address_of(pointer);
     struct block_monitor_block block;
-    uint32_t asked = FORM(ask)(&monitor, address, &block);
-    uint32_t number = FORM(free)(&monitor, address);
 
+    FORM(ask)(&monitor, address, &block);
+    return block;
+}
+
+/* Stops unless the number of free or remove says accepted. block is what was there before, outside is 4 in words. */
+static void must_be_ended(const char *what, uint32_t number, uint32_t address, struct block_monitor_block block, const char *outside,
+                          struct place where)
+{
     if (number == BLOCK_MONITOR_ACCEPTED) {
-        if (asked == BLOCK_MONITOR_ACCEPTED) /* with NULL no block ends */
+        if (block.length != 0) /* with NULL no block ends */
             remember(block, where);
         return;
     }
     print_call(what, where);
     if (number == BLOCK_MONITOR_OUTSIDE) {
-        printf("pointer into neither area");
+        printf("%s", outside);
         stop();
     }
     printf("0x%" PRIx32 " is ", address);
-    if (number != BLOCK_MONITOR_NO_BLOCK)
+    if (number != BLOCK_MONITOR_NO_BLOCK && number != BLOCK_MONITOR_NOT_HEAP)
         stop_refused(number);
-    printf(asked == BLOCK_MONITOR_ACCEPTED ? "not the first byte of " : "in ");
+    printf(number == BLOCK_MONITOR_NO_BLOCK && block.length != 0 ? "not the first byte of " : "in ");
     print_block(address);
+    if (number == BLOCK_MONITOR_NOT_HEAP)
+        printf(", but %s", monitor_words(number));
     stop();
+}
+
+void check_free(const void *pointer, struct place where)
+{
+    uint32_t address = address_of(pointer);
+    struct block_monitor_block block = block_at(address);
+
+    must_be_ended("release", FORM(free)(&monitor, address), address, block, "pointer into neither area", where);
+}
+
+void check_remove(const void *pointer, struct place where)
+{
+    uint32_t address = address_of(pointer);
+    struct block_monitor_block block = block_at(address);
+
+    must_be_ended("end", FORM(remove)(&monitor, address), address, block, "pointer outside the stack area", where);
 }
 
 void check_read(const void *pointer, uint32_t n, const void *from, struct place where)

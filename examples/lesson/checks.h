@@ -28,11 +28,11 @@ struct place {
 /* Before a string literal is first used: it may be read at once, and never written to. */
 #define CHECK_LITERAL(pointer, length) check_literal(pointer, length, HERE)
 
-/* Before a heap block is given back; a pointer that is NULL passes, as it does with C's free. */
-#define CHECK_FREE(pointer) check_free("release", pointer, HERE)
+/* Before a heap block is given back; a pointer that is NULL passes, as it does with C's free. One to the stack area does not. */
+#define CHECK_FREE(pointer) check_free(pointer, HERE)
 
-/* Where an automatic object ends; for a static one and a literal, at the end of the program. For the monitor it is the same call. */
-#define CHECK_LEAVE(pointer) check_free("end", pointer, HERE)
+/* Where an automatic object ends; for a static one and a literal, at the end of the program. All of them lie in the stack area. */
+#define CHECK_REMOVE(pointer) check_remove(pointer, HERE)
 
 /* Before a read of n bytes. */
 #define CHECK_READ(pointer, n, from) check_read(pointer, n, from, HERE)
@@ -54,7 +54,8 @@ void check_start(struct place where);
 void check_record(const void *pointer, uint32_t length, struct place where);
 void check_static(const void *pointer, uint32_t length, struct place where);
 void check_literal(const void *pointer, uint32_t length, struct place where);
-void check_free(const char *what, const void *pointer, struct place where);
+void check_free(const void *pointer, struct place where);
+void check_remove(const void *pointer, struct place where);
 void check_read(const void *pointer, uint32_t n, const void *from, struct place where);
 void check_write(const void *pointer, uint32_t n, const void *from, struct place where);
 void check_keep(const void *cell, const void *pointer, struct place where);

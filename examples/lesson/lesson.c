@@ -1,7 +1,7 @@
 /*
  * A vocabulary exercise on lent memory, with a check at every allocation, release and pointer use.
  *
- * Built with -DMISTAKE=n it has one mistake, n from 1 to 9; without, it has none. Each place says which.
+ * Built with -DMISTAKE=n it has one mistake, n from 1 to 10; without, it has none. Each place says which.
  */
 #include <inttypes.h>
 #include <stdio.h>
@@ -216,6 +216,18 @@ static void give_points(const struct answer *answer, uint32_t *points, uint32_t 
     tries[answer->word] = answer->tries;
 }
 
+/* The automatic objects of an exercise end. */
+static void leave(const struct answer *answer, const char *typed)
+{
+    CHECK_REMOVE(answer);
+    if (MISTAKE == 10) { /* 10: the buffer lies on the stack, where nothing may be freed */
+        CHECK_FREE(typed);
+        heap_release(typed);
+    }
+    CHECK_REMOVE(typed);
+    stack_pop(typed);
+}
+
 static void exercise(uint32_t word, uint32_t *points, uint32_t *tries)
 {
     char *prompt = new_text(words[word].prompt);
@@ -241,9 +253,7 @@ static void exercise(uint32_t word, uint32_t *points, uint32_t *tries)
         print_hint(answer);
     give_points(answer, points, tries);
 
-    CHECK_LEAVE(answer);
-    CHECK_LEAVE(typed);
-    stack_pop(typed);
+    leave(answer, typed);
     CHECK_FREE(prompt);
     heap_release(prompt);
     if (MISTAKE == 7) /* 7: the constant itself, which is no block */
@@ -304,10 +314,10 @@ int main(void)
     heap_release(tries);
     CHECK_FREE(points);
     heap_release(points);
-    CHECK_LEAVE(wrong_word);
-    CHECK_LEAVE(right_word);
-    CHECK_LEAVE(to_word);
-    CHECK_LEAVE(letters_typed);
+    CHECK_REMOVE(wrong_word);
+    CHECK_REMOVE(right_word);
+    CHECK_REMOVE(to_word);
+    CHECK_REMOVE(letters_typed);
     CHECK_END();
     return 0;
 }

@@ -34,6 +34,17 @@ extern "C" {
         map: *const Four,
         h: *mut u8,
         hl: usize,
+        p: *const u8,
+        pl: usize,
+        s: *const u8,
+        sl: usize,
+        base: u32,
+        f: *mut Four,
+    ) -> u32;
+    fn block_monitor_remove(
+        map: *const Four,
+        h: *const u8,
+        hl: usize,
         p: *mut u8,
         pl: usize,
         s: *mut u8,
@@ -164,6 +175,7 @@ pub fn call(
                 block_monitor_begin(m, h, hl, p, pl, s, sl, base, length, LITERAL, f)
             }
             Call::Free { base } => block_monitor_free(m, h, hl, p, pl, s, sl, base, f),
+            Call::Remove { base } => block_monitor_remove(m, h, hl, p, pl, s, sl, base, f),
             Call::Written { address, n } => {
                 block_monitor_written(m, h, hl, p, pl, s, sl, address, n, f)
             }

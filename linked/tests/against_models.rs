@@ -2,20 +2,13 @@
 
 mod common;
 
-use common::agreed;
+use common::{agreed, times};
 use linked::call;
 use model::call::Call;
 use model::generate::{self, shadows, Scale};
 use model::image::{image, Shadows};
 use model::plain::{List, PlainList};
 use model::random::Random;
-
-fn times() -> u64 {
-    std::env::var("MONITOR_CALLS")
-        .ok()
-        .and_then(|x| x.parse().ok())
-        .unwrap_or(1)
-}
 
 /// A run from cleared shadows against the plain list and its image.
 fn run(seed: u64, scale: Scale, calls: u32) {
@@ -57,22 +50,32 @@ fn runs_at_full_size() {
 }
 
 /// Which numbers the calls on any bytes gave, and how often.
-type Met = [u32; 15];
+type Met = [u32; 16];
 
 #[test]
 fn calls_on_damaged_and_random_bytes() {
     println!("seeds 0 to {}", 80_000 * times());
-    let mut met = Met::default();
+    let (mut met, mut freed, mut removed) = (Met::default(), Met::default(), Met::default());
     for seed in 0..80_000 * times() {
         let mut random = Random::new(seed);
         let map = generate::map(&mut random, Scale::Crowded);
         let (mut lent, one) = shadows::any(&mut random, map);
         let said = agreed(map, &mut lent, one);
         met[said.number as usize] += 1;
+        match one {
+            Call::Free { .. } => freed[said.number as usize] += 1,
+            Call::Remove { .. } => removed[said.number as usize] += 1,
+            _ => {}
+        }
     }
-    for number in [0, 3, 4, 5, 6, 7, 8, 13, 14] {
+    for number in [0, 3, 4, 5, 6, 7, 8, 13, 14, 15] {
         assert!(met[number] > 100, "{number}: {}", met[number]);
     }
+    for number in [0, 4, 7, 8] {
+        assert!(freed[number] > 100, "free {number}: {}", freed[number]);
+        assert!(removed[number] > 100, "{number}: {}", removed[number]);
+    }
+    assert!(freed[15] > 100 && removed[15] == 0, "{freed:?} {removed:?}");
 }
 
 /// The same ranges asked of both, and written, where the marks of a block may be mixed.

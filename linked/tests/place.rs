@@ -3,21 +3,15 @@
 
 mod common;
 
-use common::agreed;
+use common::{agreed, made_wrong, times};
 use model::call::{Answer, Call};
 use model::generate::places::{gapped, place, place_on};
 use model::generate::{self, shadows, Scale};
 use model::image::{image, Shadows};
 use model::map::Map;
-use model::notation::{example, Example, EXAMPLE_MAP};
 use model::plain::{List, PlainList};
 use model::plain_btree::PlainTree;
 use model::random::Random;
-
-fn times() -> u64 {
-    let named = std::env::var("MONITOR_CALLS").ok();
-    named.and_then(|times| times.parse().ok()).unwrap_or(1)
-}
 
 /// A call that leaves every byte.
 fn asked(map: Map, bytes: &Shadows, one: Call) -> Answer {
@@ -30,15 +24,7 @@ fn asked(map: Map, bytes: &Shadows, one: Call) -> Answer {
 /// The samples of the model's data, on the library itself.
 #[test]
 fn stated_samples() {
-    let mut samples = 0;
-    for line in include_str!("../../model/tests/data/place.txt").lines() {
-        let Some(Example::On(told)) = example(line) else {
-            continue;
-        };
-        let said = asked(EXAMPLE_MAP, &told.shadows, told.call);
-        assert_eq!(said, told.answer, "{line}");
-        samples += 1;
-    }
+    let samples = common::stated_samples(include_str!("../../model/tests/data/place.txt"));
     assert!(samples > 100, "{samples}");
 }
 
@@ -134,17 +120,7 @@ fn bad_maps_and_wrong_lengths() {
         let good = generate::map(&mut random, Scale::Crowded);
         let mut bytes = gapped(&mut random, good);
         let one = place_on(&mut random, &bytes.heap);
-        let map = match random.once_in(2) {
-            true => generate::edge_map(&mut random),
-            false => good,
-        };
-        let lent = match random.below(6) {
-            0 => &mut bytes.heap,
-            1 => &mut bytes.primary,
-            _ => &mut bytes.secondary,
-        };
-        let length = lent.len();
-        lent.resize(random.pick(&[length, length, length - 1, length + 1, 0]), 0);
+        let map = made_wrong(&mut random, good, &mut bytes);
         met[asked(map, &bytes, one).number as usize] += 1;
     }
     assert!(met[1] > 1000 && met[2] > 1000, "{met:?}");

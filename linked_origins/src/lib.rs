@@ -36,6 +36,7 @@ library! {
     block_monitor_origins_clear();
     block_monitor_origins_begin(base: u32, length: u32, how: u8, counter: *mut u64);
     block_monitor_origins_free(base: u32);
+    block_monitor_origins_remove(base: u32);
     block_monitor_origins_written(address: u32, n: u32);
     block_monitor_origins_ask(address: u32);
     block_monitor_origins_access(address: u32, n: u32, from: u32, write: bool);
@@ -105,6 +106,7 @@ pub fn call_for_literal(literal: u8, map: Map, state: &mut State, call: OriginsC
             on_state!(block_monitor_origins_begin(base, length, literal, counter))
         }
         OriginsCall::Plain(Call::Free { base }) => on_state!(block_monitor_origins_free(base)),
+        OriginsCall::Plain(Call::Remove { base }) => on_state!(block_monitor_origins_remove(base)),
         OriginsCall::Plain(Call::Written { address, n }) => {
             on_state!(block_monitor_origins_written(address, n))
         }

@@ -97,15 +97,25 @@ fn any(random: &mut Random) -> (Map, State, OriginsCall) {
 #[test]
 fn calls_on_damaged_and_random_states() {
     println!("seeds 0 to {}", 80_000 * times());
-    let mut met = [0; 14];
+    let (mut met, mut freed, mut removed) = ([0; 16], [0; 16], [0; 16]);
     for seed in 0..80_000 * times() {
         let (map, mut lent, one) = any(&mut Random::new(seed));
         let answer = agreed(map, &mut lent, one);
         met[answer.number as usize] += 1;
+        match one {
+            OriginsCall::Plain(Call::Free { .. }) => freed[answer.number as usize] += 1,
+            OriginsCall::Plain(Call::Remove { .. }) => removed[answer.number as usize] += 1,
+            _ => {}
+        }
     }
-    for number in [0, 3, 4, 5, 6, 7, 8, 11, 12, 13] {
+    for number in [0, 3, 4, 5, 6, 7, 8, 11, 12, 13, 15] {
         assert!(met[number] > 100, "{number}: {}", met[number]);
     }
+    for number in [0, 4, 7, 8] {
+        assert!(freed[number] > 100, "free {number}: {}", freed[number]);
+        assert!(removed[number] > 100, "{number}: {}", removed[number]);
+    }
+    assert!(freed[15] > 100 && removed[15] == 0, "{freed:?} {removed:?}");
 }
 
 #[test]
@@ -122,6 +132,26 @@ fn bad_maps_and_wrong_lengths() {
             states::wrong_length(&mut random, &mut lent);
         }
         agreed(map, &mut lent, one);
+    }
+}
+
+/// Free and remove at every address of the areas: the cells of a block that ends, and no others, go with it.
+#[test]
+fn every_address_on_any_state() {
+    let mut met = [0; 16];
+    for seed in 0..1500 * times() {
+        let (map, state, _) = any(&mut Random::new(seed));
+        let areas = map.climbing().map(|area| map.bounds(area));
+        for base in areas.into_iter().flatten().map(|address| address as u32) {
+            for one in [Call::Free { base }, Call::Remove { base }] {
+                let mut lent = state.clone();
+                let said = agreed(map, &mut lent, OriginsCall::Plain(one));
+                met[said.number as usize] += 1;
+            }
+        }
+    }
+    for number in [0, 4, 7, 8, 15] {
+        assert!(met[number] > 1000, "{number}: {}", met[number]);
     }
 }
 
@@ -168,7 +198,8 @@ fn stated_samples() {
     let mut samples = 0;
     let lines = include_str!("../../model/tests/data/origins.txt").lines();
     let literals = include_str!("../../model/tests/data/literals-origins.txt").lines();
-    for line in lines.chain(literals) {
+    let removals = include_str!("../../model/tests/data/remove-origins.txt").lines();
+    for line in lines.chain(literals).chain(removals) {
         let Some(Example::On(told)) = example(line) else {
             continue;
         };
@@ -180,5 +211,5 @@ fn stated_samples() {
         assert!(lent == stated, "{line}");
         samples += 1;
     }
-    assert!(samples > 500, "{samples}");
+    assert!(samples > 580, "{samples}");
 }

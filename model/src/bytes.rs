@@ -2,6 +2,8 @@
 //!
 //! It keeps nothing between calls; the shadows hold all of the state.
 
+mod place;
+
 use std::ops::Range;
 
 use crate::block::{footprint, placement_as, Beginning};
@@ -45,6 +47,7 @@ impl Lent<'_> {
             Call::RecordWritten { base, length } => self.record(base, length, Beginning::Written),
             Call::RecordLiteral { base, length } => self.record(base, length, Beginning::Literal),
             Call::Free { base } => self.free(base),
+            Call::Remove { base } => self.remove(base),
             Call::Written { address, n } => self.written(address, n),
             Call::Ask { address } => self.ask(address),
             Call::Valid { address, n, from } => self.valid(address, n, from),
@@ -149,19 +152,34 @@ impl Lent<'_> {
         if base == NULL {
             return Ok(NO_FIELDS);
         }
-        let area = self.map.area(base).ok_or(refusal::OUTSIDE)?;
+        match self.map.area(base) {
+            None => Err(refusal::OUTSIDE),
+            // Nor is one read here: 15 comes ahead of 8 and 7 (S-7).
+            Some(Area::Stack) => Err(refusal::IN_STACK),
+            Some(Area::Heap) => {
+                let place = self.begun_at(Area::Heap, base)?;
+                self.heap[place].fill(0);
+                Ok(NO_FIELDS)
+            }
+        }
+    }
+
+    fn remove(&mut self, base: u32) -> Outcome {
+        if self.map.area(base) != Some(Area::Stack) {
+            return Err(refusal::OUTSIDE);
+        }
+        let place = self.begun_at(Area::Stack, base)?;
+        self.primary[place.clone()].fill(0);
+        self.secondary[place].fill(0);
+        Ok(NO_FIELDS)
+    }
+
+    /// The footprint of the block that begins at this address, by its one reading.
+    fn begun_at(&self, area: Area, base: u32) -> Result<Range<usize>, u32> {
         let found = self.view().read(base).block()?;
         let found = found.filter(|found| found.offset == 0);
         let length = found.ok_or(refusal::NO_BLOCK)?.length;
-        let place = self.positions(area, base, length);
-        match area {
-            Area::Heap => self.heap[place].fill(0),
-            Area::Stack => {
-                self.primary[place.clone()].fill(0);
-                self.secondary[place].fill(0);
-            }
-        }
-        Ok(NO_FIELDS)
+        Ok(self.positions(area, base, length))
     }
 
     fn written(&mut self, address: u32, n: u32) -> Outcome {
@@ -244,39 +262,6 @@ impl Lent<'_> {
             }
         }
         Err(refusal::NO_BLOCK)
-    }
-
-    /// One climb from gap to gap (S-6); no address is read, so damage does not show.
-    fn place(&self, length: u32, budget: u32) -> Outcome {
-        not_zero(length)?;
-        let needed = (1 + u64::from(length).div_ceil(8)) * 8;
-        let mut looked_at = 0;
-        let mut chosen: Option<Range<usize>> = None;
-        let mut position = 0;
-        while looked_at < budget && position < self.heap.len() {
-            let gap = self.zero_segments_from(position);
-            if gap.is_empty() {
-                position += EIGHT;
-                continue;
-            }
-            looked_at += 1;
-            position = gap.end;
-            // An equal gap further up does not take the place of a lower one.
-            let smaller = chosen.as_ref().is_none_or(|lower| gap.len() < lower.len());
-            if gap.len() as u64 >= needed && smaller {
-                chosen = Some(gap);
-            }
-        }
-        let gap = chosen.ok_or(refusal::NO_GAP)?;
-        let base = self.map.heap_start + (gap.start + EIGHT) as u32;
-        Ok([base, looked_at, gap.len() as u32 - needed as u32, 0])
-    }
-
-    /// The positions of the zero segments that follow each other from here on.
-    fn zero_segments_from(&self, start: usize) -> Range<usize> {
-        let segments = self.heap[start..].chunks(EIGHT);
-        let zero = segments.take_while(|segment| segment.iter().all(|&byte| byte == 0));
-        start..start + EIGHT * zero.count()
     }
 
     fn audit(&self) -> Outcome {

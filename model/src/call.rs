@@ -1,10 +1,11 @@
 //! The calls, their answers, and the numbers of refusal.
 
 use crate::block::Beginning;
-use crate::map::NULL;
+use crate::map::{Area, NULL};
 
 /// The numbers of refusal. The lowest wins, but for 7, which is given after 8,
-/// 11 after 8, 12 after 6, 13 after 7, and 14 after 3.
+/// 11 after 8, 12 after 6, 13 after 7, 14 after 3, and 15, which is given after 4
+/// and ahead of 8 and 7.
 pub mod refusal {
     pub const BAD_MAP: u32 = 1;
     pub const SHADOW_LENGTH: u32 = 2;
@@ -20,6 +21,7 @@ pub mod refusal {
     pub const USED_UP: u32 = 12;
     pub const LITERAL: u32 = 13;
     pub const NO_GAP: u32 = 14;
+    pub const IN_STACK: u32 = 15;
 }
 
 /// A call with its arguments, in the order of the paper.
@@ -30,6 +32,7 @@ pub enum Call {
     RecordWritten { base: u32, length: u32 },
     RecordLiteral { base: u32, length: u32 },
     Free { base: u32 },
+    Remove { base: u32 },
     Written { address: u32, n: u32 },
     Ask { address: u32 },
     Valid { address: u32, n: u32, from: u32 },
@@ -45,7 +48,7 @@ impl Call {
     pub fn answer_fields(self) -> usize {
         match self {
             Call::Record { .. } | Call::RecordWritten { .. } | Call::RecordLiteral { .. } => 0,
-            Call::Clear | Call::Free { .. } | Call::Written { .. } => 0,
+            Call::Clear | Call::Free { .. } | Call::Remove { .. } | Call::Written { .. } => 0,
             Call::Valid { .. } | Call::ValidRead { .. } | Call::Initialised { .. } => 1,
             Call::Next { .. } => 2,
             Call::Place { .. } => 3,
@@ -65,6 +68,14 @@ impl Call {
             Beginning::Unwritten => Call::Record { base, length },
             Beginning::Written => Call::RecordWritten { base, length },
             Beginning::Literal => Call::RecordLiteral { base, length },
+        }
+    }
+
+    /// The call that ends a block of this area: free is for the heap alone (S-7).
+    pub fn to_end(area: Area, base: u32) -> Call {
+        match area {
+            Area::Heap => Call::Free { base },
+            Area::Stack => Call::Remove { base },
         }
     }
 
@@ -93,6 +104,7 @@ impl Call {
             Call::RecordWritten { base, length } => (10, vec![base, length]),
             Call::RecordLiteral { base, length } => (14, vec![base, length]),
             Call::ValidRead { address, n, from } => (15, vec![address, n, from]),
+            Call::Remove { base } => (16, vec![base]),
         })
     }
 
@@ -110,6 +122,7 @@ impl Call {
             (10, &[base, length]) => Call::RecordWritten { base, length },
             (14, &[base, length]) => Call::RecordLiteral { base, length },
             (15, &[address, n, from]) => Call::ValidRead { address, n, from },
+            (16, &[base]) => Call::Remove { base },
             _ => return None,
         })
     }

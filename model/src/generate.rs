@@ -82,15 +82,16 @@ pub(crate) fn call_of_both_forms(random: &mut Random, map: Map, blocks: &[Block]
     match random.below(100) {
         0 => Call::Clear,
         1..=34 => record(random, map, blocks),
-        35..=44 => Call::Free {
-            base: first_byte(random, map, blocks),
-        },
-        45..=59 => {
+        35..=46 => {
+            let base = first_byte(random, map, blocks);
+            ending(random, map, base)
+        }
+        47..=60 => {
             let address = used(random, map, blocks);
             let n = count(random, address, blocks);
             Call::Written { address, n }
         }
-        60..=69 => Call::Ask {
+        61..=69 => Call::Ask {
             address: address(random, map, blocks),
         },
         70..=79 => valid(random, map, blocks),
@@ -154,6 +155,25 @@ pub(crate) fn recording(random: &mut Random, base: u32, length: u32) -> Call {
         _ => Beginning::Unwritten,
     };
     Call::to_begin(beginning, base, length)
+}
+
+/// Free or remove: mostly the one for the area of the base, else the other, which
+/// is refused there.
+pub(crate) fn ending(random: &mut Random, map: Map, base: u32) -> Call {
+    let in_stack = map.area(base) == Some(Area::Stack);
+    match in_stack != random.once_in(6) {
+        true => Call::Remove { base },
+        false => Call::Free { base },
+    }
+}
+
+/// The same at any address of the areas, where the bytes may say anything.
+pub(crate) fn ending_anywhere(random: &mut Random, map: Map) -> Call {
+    let base = match random.once_in(2) {
+        true => map.heap_start + random.between(0, map.heap_size - 1),
+        false => map.stack_start + random.between(0, map.stack_size - 1),
+    };
+    ending(random, map, base)
 }
 
 /// Either of the two that ask for one block.

@@ -16,6 +16,7 @@
 //! - [`decode`]: the one list that shadow bytes could be the image of.
 //! - [`bytes`]: all calls on any map and any shadow bytes.
 //! - [`program`]: the calls program, run on a plain list.
+//! - [`recorded`]: runs recorded when free still took stack blocks, as they are now.
 //! - [`notation`]: the one-line notation of the example files.
 //! - [`samples`]: the samples program, which answers lines of that notation.
 //! - [`origins`]: the form with origins, with its own models and program.
@@ -35,4 +36,5 @@ pub mod plain_btree;
 pub mod program;
 pub mod random;
 pub mod reading;
+pub mod recorded;
 pub mod samples;

@@ -188,7 +188,7 @@ pub(crate) fn call_of(text: &str) -> Option<Call> {
 }
 
 /// The kinds by their words.
-const NAMES: [(u16, &str); 11] = [
+const NAMES: [(u16, &str); 12] = [
     (2, "record"),
     (3, "free"),
     (4, "written"),
@@ -200,6 +200,7 @@ const NAMES: [(u16, &str); 11] = [
     (10, "record_written"),
     (14, "record_literal"),
     (15, "valid_read"),
+    (16, "remove"),
 ];
 
 pub(crate) fn answer_of(text: &str) -> Option<Answer> {

@@ -64,6 +64,7 @@ impl PlainList {
             Call::RecordWritten { base, length } => self.record(base, length, Beginning::Written),
             Call::RecordLiteral { base, length } => self.record(base, length, Beginning::Literal),
             Call::Free { base } => self.free(base),
+            Call::Remove { base } => self.remove(base),
             Call::Written { address, n } => self.written(address, n),
             Call::Ask { address } => self.ask(address),
             Call::Valid { address, n, from } => self.valid(address, n, from),
@@ -97,7 +98,23 @@ impl PlainList {
         if base == NULL {
             return Ok(NO_FIELDS);
         }
-        self.map.area(base).ok_or(refusal::OUTSIDE)?;
+        match self.map.area(base).ok_or(refusal::OUTSIDE)? {
+            Area::Heap => self.end(base),
+            // C forbids to free an automatic object (S-7).
+            Area::Stack => Err(refusal::IN_STACK),
+        }
+    }
+
+    /// What free is in the heap, without a case for the null pointer (S-7).
+    fn remove(&mut self, base: u32) -> Outcome {
+        match self.map.area(base) {
+            Some(Area::Stack) => self.end(base),
+            _ => Err(refusal::OUTSIDE),
+        }
+    }
+
+    /// The block of this base goes.
+    fn end(&mut self, base: u32) -> Outcome {
         let index = self.blocks.iter().position(|block| block.base == base);
         self.blocks.remove(index.ok_or(refusal::NO_BLOCK)?);
         Ok(NO_FIELDS)

@@ -44,6 +44,7 @@ impl PlainTree {
             Call::RecordWritten { base, length } => self.record(base, length, Beginning::Written),
             Call::RecordLiteral { base, length } => self.record(base, length, Beginning::Literal),
             Call::Free { base } => self.free(base),
+            Call::Remove { base } => self.remove(base),
             Call::Written { address, n } => self.written(address, n),
             Call::Ask { address } => self.ask(address),
             Call::Valid { address, n, from } => self.valid(address, n, from),
@@ -79,7 +80,22 @@ impl PlainTree {
         if base == NULL {
             return Ok(NO_FIELDS);
         }
-        self.map.area(base).ok_or(refusal::OUTSIDE)?;
+        let area = self.map.area(base).ok_or(refusal::OUTSIDE)?;
+        if area == Area::Stack {
+            return Err(refusal::IN_STACK);
+        }
+        self.end(base)
+    }
+
+    fn remove(&mut self, base: u32) -> Outcome {
+        let stack = self.map.bounds(Area::Stack);
+        if !stack.contains(&u64::from(base)) {
+            return Err(refusal::OUTSIDE);
+        }
+        self.end(base)
+    }
+
+    fn end(&mut self, base: u32) -> Outcome {
         self.blocks.remove(&base).ok_or(refusal::NO_BLOCK)?;
         Ok(NO_FIELDS)
     }

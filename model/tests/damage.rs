@@ -4,7 +4,7 @@ mod common;
 
 use std::collections::BTreeMap;
 
-use common::{on_bytes, texts};
+use common::{ending, on_bytes, texts};
 use model::call::{refusal, Call};
 use model::image::Shadows;
 use model::map::Area;
@@ -166,7 +166,7 @@ fn every_call_that_reads_there_meets_the_damage() {
         let address = asked(&example);
         let (n, from) = (1, address);
         for call in [
-            Call::Free { base: address },
+            ending(EXAMPLE_MAP, address),
             Call::Written { address, n },
             Call::Valid { address, n, from },
             Call::Valid {

@@ -68,6 +68,11 @@ fn literals() {
 }
 
 #[test]
+fn remove() {
+    assert_eq!(check("remove.txt"), 130);
+}
+
+#[test]
 fn marks() {
     assert_eq!(check("marks.txt"), 119);
 }

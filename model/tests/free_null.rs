@@ -2,13 +2,11 @@
 
 mod common;
 
+use common::lent::{any_lent, any_state, outside};
 use common::on;
-use model::bytes;
 use model::call::{refusal, Answer, Call, NO_FIELDS};
 use model::generate::file::file;
-use model::generate::{self, shadows, Scale};
-use model::image::Shadows;
-use model::map::{Area, Map};
+use model::generate::{self, Scale};
 use model::plain::{List, PlainList};
 use model::plain_btree::PlainTree;
 use model::program::{decode, run, Record};
@@ -20,17 +18,6 @@ const ACCEPTED: Answer = Answer {
     number: 0,
     fields: NO_FIELDS,
 };
-
-/// A good map and bytes of any kind: an image, a damaged one, or noise.
-fn any_state(random: &mut Random) -> (Map, Shadows) {
-    let map = generate::map(random, Scale::Crowded);
-    let changes = random.below(6);
-    let bytes = match random.below(3) {
-        0 => shadows::noise(random, map),
-        _ => shadows::damaged(random, map, changes),
-    };
-    (map, bytes)
-}
 
 #[test]
 fn accepted_on_any_bytes_and_none_altered() {
@@ -56,17 +43,7 @@ fn every_other_address_outside_is_refused() {
         println!("seed {seed}");
         let mut random = Random::new(seed);
         let (map, before) = any_state(&mut random);
-        let ends = [Area::Heap, Area::Stack].map(|area| map.bounds(area));
-        let beside = ends
-            .iter()
-            .flat_map(|area| [area.start - 1, area.end, area.end + 1]);
-        let far = [8, 256, 1 << 16, 1 << 24, 1 << 31, random.number() >> 32];
-        let top = u64::from(u32::MAX);
-        let all = (1..8).chain(beside).chain(far).chain([top - 1, top]);
-        for address in all.filter_map(|address| u32::try_from(address).ok()) {
-            if address == 0 || map.area(address).is_some() {
-                continue;
-            }
+        for address in outside(&mut random, map).filter(|&address| address != 0) {
             let mut bytes = before.clone();
             let answer = on(map, &mut bytes, Call::Free { base: address });
             assert_eq!(answer, Err(refusal::OUTSIDE).into(), "{map:?} {address}");
@@ -104,28 +81,9 @@ fn bad_maps_and_wrong_lengths_come_first() {
     let mut met = [0; 3];
     for seed in 0..20_000 {
         println!("seed {seed}");
-        let mut random = Random::new(seed);
-        let (good, before) = any_state(&mut random);
-        let map = match random.once_in(2) {
-            true => generate::edge_map(&mut random),
-            false => good,
-        };
-        let mut lent = [before.heap, before.primary, before.secondary];
-        if random.once_in(2) {
-            let shadow = &mut lent[random.below(3) as usize];
-            let length = random.below(2 * shadow.len() as u64) as usize;
-            shadow.resize(length, 9);
-        }
-        let sizes = [map.heap_size, map.stack_size, map.stack_size];
-        let right = lent.iter().zip(sizes).all(|(s, z)| s.len() == z as usize);
-        let number = match (map.good(), right) {
-            (false, _) => 1,
-            (true, false) => 2,
-            (true, true) => 0,
-        };
+        let (map, mut lent, number) = any_lent(&mut Random::new(seed));
         let kept = lent.clone();
-        let [heap, primary, secondary] = &mut lent;
-        let answer = bytes::call(map, heap, primary, secondary, FREE_NULL);
+        let answer = on(map, &mut lent, FREE_NULL);
         let fields = NO_FIELDS;
         assert_eq!(answer, Answer { number, fields }, "{map:?}");
         assert!(lent == kept, "{map:?}");
@@ -151,6 +109,7 @@ fn the_other_calls_at_0_are_as_they_were() {
             (Call::Written { address, n }, 4),
             (Call::Written { address, n: 0 }, 3),
             (Call::Ask { address }, 4),
+            (Call::Remove { base }, 4),
             (
                 Call::Valid {
                     address,

@@ -5,8 +5,8 @@ mod common;
 
 use std::collections::BTreeMap;
 
-use common::on;
-use model::call::{refusal, Answer, Call};
+use common::step;
+use model::call::{refusal, Call};
 use model::generate::{self, shadows, Scale};
 use model::image::Shadows;
 use model::map::{Area, Map};
@@ -47,12 +47,6 @@ fn any(random: &mut Random) -> (Map, Shadows, Call) {
     (map, bytes, call)
 }
 
-/// Number, fields and bytes of a call.
-fn step(map: Map, bytes: &Shadows, call: Call) -> (Answer, Shadows) {
-    let mut after = bytes.clone();
-    (on(map, &mut after, call), after)
-}
-
 /// How often each of these was met, so that no clause goes untried.
 #[derive(Default)]
 struct Met(BTreeMap<&'static str, u32>);
@@ -87,13 +81,16 @@ fn calls_with_marks_and_without() {
                 let (plainly, without) = step(map, &unmarked(&bytes), call);
                 assert_eq!(said, plainly, "{map:?} {call:?}");
                 assert!(unmarked(&after) == without, "{map:?} {call:?}");
-                if let (Call::Free { base }, 0) = (call, said.number) {
-                    met.count("a literal freed", marked(map, &bytes, base));
+                if let (Call::Remove { base }, 0) = (call, said.number) {
+                    met.count("a literal removed", marked(map, &bytes, base));
+                }
+                if let (Call::Free { base }, 15) = (call, said.number) {
+                    met.count("free of a literal", marked(map, &bytes, base));
                 }
             }
         }
     }
-    assert_eq!(met.0.len(), 8);
+    assert_eq!(met.0.len(), 9);
     met.all_above(100);
 }
 

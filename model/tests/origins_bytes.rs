@@ -56,7 +56,7 @@ fn cell(map: Map, state: &State, address: u32) -> (u32, u32) {
 /// The plain form decides every plain call, but for 5 and 12, and the cells follow.
 #[test]
 fn plain_calls_are_the_plain_forms() {
-    let mut met = [0; 14];
+    let mut met = [0; 16];
     for seed in 0..60_000 {
         println!("seed {seed}");
         let (map, before, call) = any(&mut Random::new(seed));
@@ -84,15 +84,15 @@ fn plain_calls_are_the_plain_forms() {
         }
         cells_follow(map, &before, &after, one);
     }
-    for number in [0, 3, 4, 5, 6, 7, 8, 12, 13] {
+    for number in [0, 3, 4, 5, 6, 7, 8, 12, 13, 15] {
         assert!(met[number] > 100, "{number}: {}", met[number]);
     }
 }
 
 /// Every cell of both areas and the counter after an accepted plain call.
 fn cells_follow(map: Map, before: &State, after: &State, call: Call) {
-    let freed = |address: u32| match call {
-        Call::Free { base } => match read(map, before, base) {
+    let ended = |address: u32| match call {
+        Call::Free { base } | Call::Remove { base } => match read(map, before, base) {
             Reading::Block(found) => (base..base + found.length).any(|a| containing(a) == address),
             _ => false,
         },
@@ -103,7 +103,7 @@ fn cells_follow(map: Map, before: &State, after: &State, call: Call) {
         for address in map.bounds(area).step_by(4) {
             let address = address as u32;
             let (origin, referent) = cell(map, before, address);
-            let expected = match (freed(address), recorded) {
+            let expected = match (ended(address), recorded) {
                 (true, _) => (0, 0),
                 (_, Some(base)) if base == address => (before.counter as u32, referent),
                 _ => (origin, referent),

@@ -1,9 +1,10 @@
 //! Every example of the open points of S-4, and a sample for each of its clauses
-//! and for each of S-5 in this form.
+//! and for each of S-5 and S-7 in this form.
 
 mod common;
 
-use common::{data, origins_on_bytes};
+use common::data;
+use common::program::origins_on_bytes;
 use model::notation::{example as plain_example, Example as PlainExample, EXAMPLE_MAP};
 use model::origins::bytes;
 use model::origins::notation::{example, put, Example, OneCall};
@@ -59,12 +60,17 @@ fn every_example_of_the_open_points() {
 
 #[test]
 fn every_clause() {
-    assert_eq!(check("origins.txt"), 337);
+    assert_eq!(check("origins.txt"), 338);
 }
 
 #[test]
 fn literals() {
     assert_eq!(check("literals-origins.txt"), 288);
+}
+
+#[test]
+fn remove() {
+    assert_eq!(check("remove-origins.txt"), 78);
 }
 
 /// The samples program's right-hand sides are whole: put on the given state they
@@ -75,6 +81,7 @@ fn answered_lines_tell_the_whole_state() {
         "origins-open-points.txt",
         "origins.txt",
         "literals-origins.txt",
+        "remove-origins.txt",
     ];
     for line in names.map(lines).concat() {
         let question = line
@@ -114,6 +121,8 @@ fn what_is_no_sample_gets_a_question_mark() {
         "on origins: : place 8 1",
         "on origins: : place 8",
         "on origins: : room 8 1",
+        "on origins: : remove",
+        "on origins: : remove 8192 4",
         "on: heapcells@0=1 : audit",
         "on: counter=1 : audit",
         "on: heap=63 : audit",
@@ -121,6 +130,9 @@ fn what_is_no_sample_gets_a_question_mark() {
         "on: : place 8",
         "on: : place 8 1 0",
         "on: : place 4294967296 1",
+        "on: : remove",
+        "on: : remove 8192 4",
+        "on: : removed 8192",
         "on  origins: : audit",
         "run  origins: 9",
         "origins: : audit",

@@ -2,7 +2,7 @@
 
 mod common;
 
-use common::origins_on_bytes;
+use common::program::origins_on_bytes;
 use model::generate;
 use model::origins::generate::file::file;
 use model::origins::program::{decode, run};
@@ -17,7 +17,7 @@ fn text(input: &[u8]) -> String {
 
 #[test]
 fn lengths_are_those_of_the_kinds() {
-    let lengths = [20, 12, 8, 12, 8, 16, 12, 8, 4, 12, 12, 12, 12, 12, 16];
+    let lengths = [20, 12, 8, 12, 8, 16, 12, 8, 4, 12, 12, 12, 12, 12, 16, 8];
     for (kind, right) in (1u16..).zip(lengths) {
         for length in 0..40u16 {
             let mut record = length.to_le_bytes().to_vec();
@@ -27,7 +27,7 @@ fn lengths_are_those_of_the_kinds() {
             assert_eq!(decoded, length == right, "{kind} {length}");
         }
     }
-    for kind in (0..1).chain(16..=u16::MAX) {
+    for kind in (0..1).chain(17..=u16::MAX) {
         for fields in 0..8 {
             assert!(decode(&encode(kind, &vec![0; fields])).is_none(), "{kind}");
         }
@@ -49,9 +49,13 @@ fn the_plain_program_stays() {
 
 #[test]
 fn a_cut_record_prints_nine_alone() {
-    for kind in 11..=15 {
-        let fields = [8192, 4, 8192];
-        let record = encode(kind, &fields[..if kind == 15 { 3 } else { 2 }]);
+    for kind in 11..=16 {
+        let fields = match kind {
+            15 => &[8192, 4, 8192][..],
+            16 => &[8192],
+            _ => &[8192, 4],
+        };
+        let record = encode(kind, fields);
         for left in 1..record.len() {
             let input = [encode(1, &MAP), record[..left].to_vec()].concat();
             assert_eq!(text(&input), "1 0\n9\n");
@@ -64,13 +68,14 @@ fn a_cut_record_prints_nine_alone() {
 fn before_any_map() {
     let mut input: Vec<u8> = (11..=14).flat_map(|kind| encode(kind, &[0, 0])).collect();
     input.extend(encode(15, &[0, 0, 0]));
-    assert_eq!(text(&input), "11 1\n12 1\n13 1\n14 1\n15 1\n");
+    input.extend(encode(16, &[0]));
+    assert_eq!(text(&input), "11 1\n12 1\n13 1\n14 1\n15 1\n16 1\n");
 }
 
 #[test]
 fn random_files() {
     let mut ended_early = 0;
-    let mut lines_met = [0; 8];
+    let mut lines_met = [0; 12];
     for seed in 0..1000 {
         println!("seed {seed}");
         let input = file(&mut Random::new(seed), 200);
@@ -79,7 +84,8 @@ fn random_files() {
         let lines = String::from_utf8(output).expect("lines are text");
         ended_early += u32::from(lines.ends_with("\n9\n"));
         let wanted = [
-            "1 10", "13 0 1", "13 0 0", "14 0", "14 5", "15 0 1", "15 0 0", "4 13",
+            "1 10", "13 0 1", "13 0 0", "14 0", "14 5", "15 0 1", "15 0 0", "4 13", "3 15", "16 0",
+            "16 4", "16 7",
         ];
         for (count, line) in lines_met.iter_mut().zip(wanted) {
             *count += lines.lines().filter(|&met| met == line).count();

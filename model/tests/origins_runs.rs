@@ -15,7 +15,7 @@ use model::random::Random;
 /// What a run met: how often each kind gave each number, and how kind 13 answered.
 #[derive(Default)]
 struct Met {
-    numbers: [[u32; 14]; 16],
+    numbers: [[u32; 16]; 17],
     live: u32,
     /// Kind 13 answered 0 although the address was in a live block, and the
     /// pointer was set to a block.
@@ -61,11 +61,11 @@ fn judged(calls: &[(OriginsCall, bool)], cell: u32, address: u32, live: bool, me
 }
 
 /// Which numbers a list can give for each kind, where the origins do not run out.
-const GIVEN: [&[usize]; 16] = [
+const GIVEN: [&[usize]; 17] = [
     &[],
     &[0],
     &[0, 3, 4, 5, 6],
-    &[0, 4, 7],
+    &[0, 4, 7, 15],
     &[0, 3, 4, 7, 13],
     &[0, 4, 7],
     &[0, 3],
@@ -78,6 +78,7 @@ const GIVEN: [&[usize]; 16] = [
     &[0, 4, 11],
     &[0, 3, 4, 5, 6],
     &[0, 3],
+    &[0, 4, 7],
 ];
 
 fn all_met(met: &Met, used_up: bool) {

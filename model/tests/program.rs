@@ -1,14 +1,12 @@
 //! The calls program: undecodable records, and random files on both lists.
 
-use model::call::Call;
-use model::generate::file::file;
-use model::image::Shadows;
-use model::map::Map;
-use model::plain_btree::PlainTree;
-use model::program::{decode, encode, run, run_on, Record};
-use model::random::Random;
-
 mod common;
+
+use common::program::run_on_bytes;
+use model::generate::file::file;
+use model::plain_btree::PlainTree;
+use model::program::{decode, encode, run, run_on};
+use model::random::Random;
 
 const MAP: [u32; 4] = [4096, 64, 8192, 32];
 
@@ -38,12 +36,13 @@ fn the_bytes_of_a_record() {
         encode(15, &[8192, 9, 8193]),
         [16, 0, 15, 0, 0, 32, 0, 0, 9, 0, 0, 0, 1, 32, 0, 0]
     );
+    assert_eq!(encode(16, &[8195]), [8, 0, 16, 0, 3, 32, 0, 0]);
 }
 
 #[test]
 fn lengths_are_those_of_the_kinds() {
     let lengths = [20, 12, 8, 12, 8, 16, 12, 8, 4, 12];
-    let later = [(14, 12), (15, 16)];
+    let later = [(14, 12), (15, 16), (16, 8)];
     for (kind, right) in (1u16..).zip(lengths).chain(later) {
         for length in 0..40u16 {
             let mut record = length.to_le_bytes().to_vec();
@@ -87,9 +86,12 @@ fn nothing_is_read_after_nine() {
         encode(14, &[8192, 8, 0]),
         encode(15, &[8192, 8]),
         encode(15, &[8192, 8, 8192, 0]),
-        encode(16, &[8192]),
+        encode(16, &[]),
+        encode(16, &[8192, 8]),
+        encode(17, &[8192]),
         encode(270, &[8192, 8]),
         encode(271, &[8192, 8, 8192]),
+        encode(272, &[8192]),
         encode(9, &[0]),
         vec![4, 1, 9, 0],
         vec![0, 0, 9, 0],
@@ -104,48 +106,6 @@ fn nothing_is_read_after_nine() {
 #[test]
 fn a_refused_audit_is_not_nine_alone() {
     assert_eq!(text(&encode(9, &[])), "9 1\n");
-}
-
-/// The program once more, on the byte-level model instead of a list.
-fn run_on_bytes(mut input: &[u8]) -> Vec<u8> {
-    let mut map = Map::default();
-    let mut shadows = Shadows::cleared(map);
-    let mut output = String::new();
-    while !input.is_empty() {
-        let Some((record, rest)) = decode(input) else {
-            output += "9\n";
-            break;
-        };
-        input = rest;
-        match record {
-            Record::Map(new) => {
-                let number = match (new.good(), new.heap_size, new.stack_size) {
-                    (false, ..) => 1,
-                    (true, 0..=32_768, 0..=16_384) => 0,
-                    _ => 10,
-                };
-                if number == 0 {
-                    map = new;
-                    shadows = Shadows::cleared(map);
-                }
-                output += &format!("1 {number}\n");
-            }
-            Record::Call(kind, call) => {
-                output += &line_on_bytes(map, &mut shadows, kind, call);
-            }
-        }
-    }
-    output.into_bytes()
-}
-
-fn line_on_bytes(map: Map, shadows: &mut Shadows, kind: u16, call: Call) -> String {
-    let answer = common::on(map, shadows, call);
-    let mut words = vec![u32::from(kind), answer.number];
-    if answer.number == 0 {
-        words.extend(&answer.fields[..call.answer_fields()]);
-    }
-    let words: Vec<String> = words.iter().map(u32::to_string).collect();
-    words.join(" ") + "\n"
 }
 
 #[test]

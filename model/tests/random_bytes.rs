@@ -2,7 +2,7 @@
 
 mod common;
 
-use common::on;
+use common::{addresses, ending, on, view};
 use model::block::Block;
 use model::bytes;
 use model::call::{refusal, Answer, Call};
@@ -12,16 +12,7 @@ use model::image::{image, Shadows};
 use model::map::{Area, Map};
 use model::plain::{List, PlainList};
 use model::random::Random;
-use model::reading::{Reading, View};
-
-fn view(map: Map, shadows: &Shadows) -> View<'_> {
-    View {
-        map,
-        heap: &shadows.heap,
-        primary: &shadows.primary,
-        secondary: &shadows.secondary,
-    }
-}
+use model::reading::Reading;
 
 /// One call that must leave the bytes alone.
 fn look(map: Map, bytes: &Shadows, call: Call) -> Answer {
@@ -29,11 +20,6 @@ fn look(map: Map, bytes: &Shadows, call: Call) -> Answer {
     let answer = on(map, &mut shadows, call);
     assert!(shadows == *bytes, "{call:?} changed bytes");
     answer
-}
-
-fn addresses(map: Map) -> impl Iterator<Item = u32> {
-    let [low, high] = map.climbing().map(|area| map.bounds(area));
-    low.chain(high).map(|address| address as u32)
 }
 
 /// A block recorded, and its bytes written; a literal in one call.
@@ -136,8 +122,8 @@ fn changes_stay_inside(map: Map, bytes: &Shadows, call: Call) {
         | Call::RecordLiteral { base, length }
             if answer.number == 0 =>
         {
-            let free = on(map, &mut shadows, Call::Free { base });
-            assert_eq!(free.number, 0, "{length}");
+            let ended = on(map, &mut shadows, ending(map, base));
+            assert_eq!(ended.number, 0, "{length}");
             assert!(shadows == *bytes, "a recorded place was not zero before");
         }
         _ => {}

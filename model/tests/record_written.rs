@@ -2,7 +2,7 @@
 
 mod common;
 
-use common::on;
+use common::{ending, on};
 use model::call::{Answer, Call};
 use model::generate::{self, shadows, Scale};
 use model::image::Shadows;
@@ -127,7 +127,7 @@ fn record_begins_unwritten_where_a_written_block_was() {
             let mut step = |call| on(EXAMPLE_MAP, &mut shadows, call);
             step(Call::RecordWritten { base, length });
             assert_eq!(step(Call::Audit).fields[3], length);
-            assert_eq!(step(Call::Free { base }).number, 0);
+            assert_eq!(step(ending(EXAMPLE_MAP, base)).number, 0);
             assert_eq!(step(Call::Audit).fields, [0; 4]);
             assert_eq!(step(Call::Record { base, length }).number, 0);
             let [.., live, written] = step(Call::Audit).fields;

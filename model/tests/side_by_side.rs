@@ -3,7 +3,7 @@
 
 mod common;
 
-use common::{data, on};
+use common::{data, ending, on};
 use model::call::{refusal, Answer, Call};
 use model::image::{image, Shadows};
 use model::notation::EXAMPLE_MAP;
@@ -73,7 +73,7 @@ fn whole_life(both: &mut Both, base: u32) {
         both.step(Call::Ask { address });
     }
     both.step(Call::Audit);
-    both.step(Call::Free { base });
+    both.step(ending(EXAMPLE_MAP, base));
     assert_eq!(both.shadows, Shadows::cleared(EXAMPLE_MAP));
 }
 

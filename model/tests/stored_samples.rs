@@ -10,6 +10,7 @@ use common::{data, right_hand_sides, stored};
 use model::call::Call;
 use model::decode::decode;
 use model::image::{image, Shadows};
+use model::map::Area;
 use model::notation::{example, put, Example, OneCall, EXAMPLE_MAP};
 use model::origins::notation as origins;
 use model::plain::{List, PlainList};
@@ -17,7 +18,7 @@ use model::reading::View;
 use model::samples::{answered, LONGEST_LINE};
 
 /// The files of tests/data whose right-hand sides are stated and stored.
-const STATED: [&str; 15] = [
+const STATED: [&str; 17] = [
     "document-01.txt",
     "open-points.txt",
     "damage.txt",
@@ -33,6 +34,8 @@ const STATED: [&str; 15] = [
     "literals.txt",
     "literals-origins.txt",
     "place.txt",
+    "remove.txt",
+    "remove-origins.txt",
 ];
 
 /// A line of a data file as the program reads it, and what is stated of it.
@@ -113,13 +116,13 @@ fn stored_with_origins(question: &str, side: &str, stated: &str) {
     assert_eq!(after, kept, "{question}");
 }
 
-/// By the heap's bytes alone, and by the stack's alone.
+/// By the heap's bytes alone, and by the stack's alone; free reads the heap only,
+/// and remove the stack.
 #[test]
 fn each_call_that_can_give_8_does() {
     let sides = right_hand_sides();
     let refused: Vec<_> = sides.iter().filter(|s| s.1.starts_with('8')).collect();
-    for word in [
-        "free",
+    let both = [
         "written",
         "ask",
         "valid",
@@ -127,13 +130,20 @@ fn each_call_that_can_give_8_does() {
         "initialised",
         "next",
         "audit",
-    ] {
-        for other in [["pri@", "sec@"], ["heap@", "heap@"]] {
+    ];
+    let both = both.map(|word| (word, [true, true]));
+    let one = [("free", [true, false]), ("remove", [false, true])];
+    for (word, reads) in both.into_iter().chain(one) {
+        for (reads, other) in reads
+            .into_iter()
+            .zip([["pri@", "sec@"], ["heap@", "heap@"]])
+        {
             let alone = |question: &str| {
                 let call = question.split(" : ").nth(1).unwrap_or("");
                 call.split(' ').next() == Some(word) && !other.iter().any(|o| question.contains(o))
             };
-            assert!(refused.iter().any(|s| alone(s.0)), "{word} {other:?}");
+            let met = refused.iter().any(|s| alone(s.0));
+            assert_eq!(met, reads, "{word} {other:?}");
         }
     }
 }
@@ -149,6 +159,30 @@ fn free_of_0_changes_nothing() {
         }
     }
     assert!(samples > 15, "{samples} samples");
+}
+
+/// No byte counts where free meets the stack area, or remove an address outside it.
+#[test]
+fn free_of_the_stack_and_remove_elsewhere_say_the_same_of_any_bytes() {
+    let mut met = [0; 2];
+    for (question, side) in right_hand_sides() {
+        if !question.starts_with("on:") || side == "?" {
+            continue;
+        }
+        let in_stack = |base| EXAMPLE_MAP.area(base) == Some(Area::Stack);
+        match one_call(&question, &side).call {
+            Call::Free { base } if in_stack(base) => {
+                assert_eq!(side, "15", "{question}");
+                met[0] += 1;
+            }
+            Call::Remove { base } if !in_stack(base) => {
+                assert_eq!(side, "4", "{question}");
+                met[1] += 1;
+            }
+            _ => {}
+        }
+    }
+    assert!(met.iter().all(|&count| count > 25), "{met:?}");
 }
 
 /// Where the given bytes are an image, the plain list answers alike.

@@ -14,6 +14,7 @@ use calls_text::records::{records, Record};
 use calls_text::show::{show, Shown};
 use calls_text::text::{parse, Parsed};
 use model::program::encode;
+use model::recorded::{lines_with_removals, with_removals};
 
 /// A guard against a program that never ends, far above what any run takes.
 pub const DEADLINE: Duration = Duration::from_secs(20);
@@ -82,6 +83,13 @@ fn example_text(name: &str) -> Parsed {
     let path = format!("examples/calls/{name}.txt");
     let text = String::from_utf8(bytes(&path)).expect("examples are text");
     parsed(&path, &text)
+}
+
+/// A recorded run with remove for each free of a stack address, which free refuses since S-7, and the lines of it.
+pub fn recorded(name: &str) -> (Vec<u8>, Vec<u8>) {
+    let file = |end: &str| bytes(&format!("model/tests/data/{name}.{end}"));
+    let (calls, lines) = (file("calls"), file("expected"));
+    (with_removals(&calls), lines_with_removals(&calls, &lines))
 }
 
 /// The program under test; `CALLS_PROGRAM`, and `CALLS_ORIGINS_PROGRAM` for the form with origins, name another one.

@@ -1,6 +1,6 @@
 -- What the first record decodes to in each case, and the kind and length of a decoded request. Assumes nothing.
 use mathlib.Core.Path.{_≡_, refl, sym, _∙_}
-use mathlib.Core.Bool.{true, false, _&&_, _||_}
+use mathlib.Core.Bool.{true, false, _&&_, _||_, false≢true}
 use mathlib.Core.List.{List, _++_}
 use mathlib.Core.Logic.{_≢_, _⊎_, inl, inr}
 use mathlib.Core.Option.{Option, none, some}
@@ -23,14 +23,15 @@ use Rattle.calls_format.specs.Decoded.{beginKind, Records, kindOf, lengt
 pub reach : {k n : ℕ} (j : ℕ) → k ≡ j → lengthOf k ≤ n → lengthOf j ≤ n
 reach j e h = rw e at h
 
--- of the kinds whose calls write, those that are left beside free and written
-pub last-write : (k : ℕ) → writes k ≡ true → k ≢ 3 → k ≢ 4 → Records k
-last-write k h a b = go (test (eqb k 2)) (test (eqb k 10))
+-- of the kinds whose calls write, those that are left beside free, written and remove
+pub last-write : (k : ℕ) → writes k ≡ true → k ≢ 3 → k ≢ 4 → k ≢ 16 → Records k
+last-write k h a b c = go (test (eqb k 2)) (test (eqb k 10)) (test (eqb k 14))
   where
-    go : Test (eqb k 2) → Test (eqb k 10) → Records k
-    go (is-true t) u = inl (eqb-true k 2 t)
-    go (is-false t) (is-true u) = inr (inl (eqb-true k 10 u))
-    go (is-false t) (is-false u) = inr (inr (eqb-true k 14 (rw (t, ne-eqb k 3 a, ne-eqb k 4 b, u) at h)))
+    go : Test (eqb k 2) → Test (eqb k 10) → Test (eqb k 14) → Records k
+    go (is-true t) u v = inl (eqb-true k 2 t)
+    go (is-false t) (is-true u) v = inr (inl (eqb-true k 10 u))
+    go (is-false t) (is-false u) (is-true v) = inr (inr (eqb-true k 14 v))
+    go (is-false t) (is-false u) (is-false v) = absurd (false≢true (rw (t, ne-eqb k 3 a, ne-eqb k 4 b, u, v, ne-eqb k 16 c) at h))
 
 pub records-long : {k n : ℕ} → Records k → lengthOf k ≤ n → 12 ≤ n
 unfolding fieldsOf
@@ -60,11 +61,12 @@ valid-long (inr e) h = rw e at h
 pub last-read : (k : ℕ) (l : List ℕ) → k ≢ 1 → writes k ≡ false → k ≢ 5 → k ≢ 6 → k ≢ 7 → k ≢ 8 → k ≢ 15 → call plain.audit ≡ requestOf k l
 unfolding requestOf
 last-read k l z h a b c d e =
-    let j = or-false (eqb k 2 || eqb k 3 || eqb k 4 || eqb k 10) (eqb k 14) h in
+    let m = or-false (eqb k 2 || eqb k 3 || eqb k 4 || eqb k 10 || eqb k 14) (eqb k 16) h in
+    let j = or-false (eqb k 2 || eqb k 3 || eqb k 4 || eqb k 10) (eqb k 14) (m .0) in
     let f = or-false (eqb k 2 || eqb k 3 || eqb k 4) (eqb k 10) (j .0) in
     let g = or-false (eqb k 2 || eqb k 3) (eqb k 4) (f .0) in
     let i = or-false (eqb k 2) (eqb k 3) (g .0) in
-    rw (ne-eqb k 1 z, i .0, i .1, g .1, ne-eqb k 5 a, ne-eqb k 6 b, ne-eqb k 7 c, ne-eqb k 8 d, f .1, j .1, ne-eqb k 15 e)
+    rw (ne-eqb k 1 z, i .0, i .1, g .1, ne-eqb k 5 a, ne-eqb k 6 b, ne-eqb k 7 c, ne-eqb k 8 d, f .1, j .1, ne-eqb k 15 e, m .1)
 
 -- ---- the cases of a record
 
@@ -123,15 +125,15 @@ module _ {l : List ℕ} {k n : ℕ} (h : Headed l k n) where
 
 -- ---- a decoded request has its record's kind and length
 
--- the kinds are 1 to 10, 14 and 15
-pub no-kind : (k : ℕ) → k ≢ 1 → k ≢ 2 → k ≢ 3 → k ≢ 4 → k ≢ 5 → k ≢ 6 → k ≢ 7 → k ≢ 8 → k ≢ 9 → k ≢ 10 → k ≢ 14 → k ≢ 15 → fieldsOf k ≡ none
+-- the kinds are 1 to 10 and 14 to 16
+pub no-kind : (k : ℕ) → k ≢ 1 → k ≢ 2 → k ≢ 3 → k ≢ 4 → k ≢ 5 → k ≢ 6 → k ≢ 7 → k ≢ 8 → k ≢ 9 → k ≢ 10 → k ≢ 14 → k ≢ 15 → k ≢ 16 → fieldsOf k ≡ none
 unfolding fieldsOf
-no-kind k a b c d e f g h i j m n =
-    rw (ne-eqb k 1 a, ne-eqb k 2 b, ne-eqb k 3 c, ne-eqb k 4 d, ne-eqb k 5 e, ne-eqb k 6 f, ne-eqb k 7 g, ne-eqb k 8 h, ne-eqb k 9 i, ne-eqb k 10 j, ne-eqb k 14 m, ne-eqb k 15 n)
+no-kind k a b c d e f g h i j m n o =
+    rw (ne-eqb k 1 a, ne-eqb k 2 b, ne-eqb k 3 c, ne-eqb k 4 d, ne-eqb k 5 e, ne-eqb k 6 f, ne-eqb k 7 g, ne-eqb k 8 h, ne-eqb k 9 i, ne-eqb k 10 j, ne-eqb k 14 m, ne-eqb k 15 n, ne-eqb k 16 o)
 
 -- what holds of each kind, and of a number that is none, holds of every number
 module _ (P : ℕ → Type 0) (p1 : P 1) (p2 : P 2) (p3 : P 3) (p4 : P 4) (p5 : P 5) (p6 : P 6) (p7 : P 7) (p8 : P 8) (p9 : P 9) (p10 : P 10)
-    (p14 : P 14) (p15 : P 15)
+    (p14 : P 14) (p15 : P 15) (p16 : P 16)
     (other : (k : ℕ) → fieldsOf k ≡ none → P k) where
   by-kind : (k : ℕ) → P k
   unfolding fieldsOf
@@ -151,15 +153,16 @@ module _ (P : ℕ → Type 0) (p1 : P 1) (p2 : P 2) (p3 : P 3) (p4 : P 4) (p5 : 
   by-kind (suc (suc (suc (suc (suc (suc (suc (suc (suc (suc (suc (suc (suc (zero)))))))))))))) = other 13 refl
   by-kind (suc (suc (suc (suc (suc (suc (suc (suc (suc (suc (suc (suc (suc (suc (zero))))))))))))))) = p14
   by-kind (suc (suc (suc (suc (suc (suc (suc (suc (suc (suc (suc (suc (suc (suc (suc (zero)))))))))))))))) = p15
-  by-kind (suc (suc (suc (suc (suc (suc (suc (suc (suc (suc (suc (suc (suc (suc (suc (suc (k))))))))))))))))) =
-      let k′ : ℕ = suc (suc (suc (suc (suc (suc (suc (suc (suc (suc (suc (suc (suc (suc (suc (suc (k)))))))))))))))) in
-      other k′ (no-kind k′ (omega arith) (omega arith) (omega arith) (omega arith) (omega arith) (omega arith) (omega arith) (omega arith) (omega arith) (omega arith) (omega arith) (omega arith))
+  by-kind (suc (suc (suc (suc (suc (suc (suc (suc (suc (suc (suc (suc (suc (suc (suc (suc (zero))))))))))))))))) = p16
+  by-kind (suc (suc (suc (suc (suc (suc (suc (suc (suc (suc (suc (suc (suc (suc (suc (suc (suc (k)))))))))))))))))) =
+      let k′ : ℕ = suc (suc (suc (suc (suc (suc (suc (suc (suc (suc (suc (suc (suc (suc (suc (suc (suc (k))))))))))))))))) in
+      other k′ (no-kind k′ (omega arith) (omega arith) (omega arith) (omega arith) (omega arith) (omega arith) (omega arith) (omega arith) (omega arith) (omega arith) (omega arith) (omega arith) (omega arith))
 
 kind-back : (k n : ℕ) (l : List ℕ) → fieldsOf k ≡ some n → kindOf (requestOf k l) ≡ k
 unfolding fieldsOf requestOf
 kind-back k n l =
     by-kind (λ j. fieldsOf j ≡ some n → kindOf (requestOf j l) ≡ j) (λ e. refl) (λ e. refl) (λ e. refl) (λ e. refl) (λ e. refl) (λ e. refl)
-    (λ e. refl) (λ e. refl) (λ e. refl) (λ e. refl) (λ e. refl) (λ e. refl) (λ j u e. let z : _≡_ {A = ℕ} 0 1 = cc in absurd (omega arith)) k
+    (λ e. refl) (λ e. refl) (λ e. refl) (λ e. refl) (λ e. refl) (λ e. refl) (λ e. refl) (λ j u e. let z : _≡_ {A = ℕ} 0 1 = cc in absurd (omega arith)) k
 
 -- kind and length of a decoded request are those that the record begins with, and the bytes have the whole record
 abbrev pub Heads : List ℕ → Request → Type 0
@@ -192,7 +195,7 @@ pub longest-holds : (k : ℕ) → lengthOf k ≤ longest
 unfolding fieldsOf
 longest-holds =
     by-kind (λ j. lengthOf j ≤ longest) (omega arith) (omega arith) (omega arith) (omega arith) (omega arith) (omega arith) (omega arith) (omega arith)
-    (omega arith) (omega arith) (omega arith) (omega arith) (λ j u. rw u (omega arith))
+    (omega arith) (omega arith) (omega arith) (omega arith) (omega arith) (λ j u. rw u (omega arith))
 
 module _ (l m : List ℕ) (h : longest ≤ length l) where
   pub word-front : (p w : ℕ) → p + w ≤ longest → word (at (l ++ m)) p w ≡ word (at l) p w

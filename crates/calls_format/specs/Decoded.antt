@@ -7,7 +7,7 @@ use Prim.Native.Nat.{ℕ}
 use lib.Dec.{eqb}
 use Rattle.plain.specs.declared.Beginning.{Beginning}
 use Rattle.plain.specs.declared.Beginning.the-variants.{Unwritten, Written, Literal}
-use Rattle.plain.specs.Call.{Call, clear, begin, free, written, ask, valid, initialised, next, audit, place}
+use Rattle.plain.specs.Call.{Call, clear, begin, free, remove, written, ask, valid, initialised, next, audit, place}
 use Rattle.monitor_base.specs.Answers.{callOf}
 use Rattle.calls_format.specs.declared.Request as code
 use Rattle.calls_format.specs.declared.Request.the-variants as case
@@ -44,6 +44,7 @@ abbrev pub callKind : Call → ℕ
 callKind clear = 0
 callKind (begin how b l) = beginKind how
 callKind (free x) = 3
+callKind (remove x) = 16
 callKind (written a n) = 4
 callKind (ask a) = 5
 callKind (valid write a n from) = validKind write
@@ -71,4 +72,4 @@ longest = 20
 
 -- the kinds whose calls write; every other kind but the map's, 1, has calls that only read
 abbrev pub writes : (kind : ℕ) → Bool
-writes k = eqb k 2 || eqb k 3 || eqb k 4 || eqb k 10 || eqb k 14
+writes k = eqb k 2 || eqb k 3 || eqb k 4 || eqb k 10 || eqb k 14 || eqb k 16

@@ -44,7 +44,8 @@ fieldsOf k =
     (cond (eqb k 9) (some 0)
     (cond (eqb k 10) (some 2)
     (cond (eqb k 14) (some 2)
-    (cond (eqb k 15) (some 3) none)))))))))))
+    (cond (eqb k 15) (some 3)
+    (cond (eqb k 16) (some 1) none))))))))))))
 
 -- what a record of a known kind asks for; the kind that is left at the end is 9
 unfoldable pub requestOf : (kind : ℕ) → List ℕ → Request
@@ -60,7 +61,8 @@ requestOf k l =
     (cond (eqb k 10) (call (plain.record-written (field l 0) (field l 1)))
     (cond (eqb k 14) (call (plain.record-literal (field l 0) (field l 1)))
     (cond (eqb k 15) (call (plain.valid-read (field l 0) (field l 1) (field l 2)))
-    (call plain.audit)))))))))))
+    (cond (eqb k 16) (call (plain.remove (field l 0)))
+    (call plain.audit))))))))))))
 
 -- the length that a record of so many fields has
 abbrev pub recordLength : (fields : ℕ) → ℕ

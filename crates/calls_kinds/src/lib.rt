@@ -17,7 +17,7 @@ pub fn record_length(kind: u32) -> usize
         1 => 20,
         6 | 15 => 16,
         2 | 4 | 7 | 10 | 14 => 12,
-        3 | 5 | 8 => 8,
+        3 | 5 | 8 | 16 => 8,
         9 => 4,
         _ => 0,
     }
@@ -27,7 +27,7 @@ pub fn record_length(kind: u32) -> usize
 pub fn writes(kind: u32) -> bool
     ensures { λ r. ⌜ r ≡ kinds.writes kind ⌝ }
 {
-    (kind == 2) | (kind == 3) | (kind == 4) | (kind == 10) | (kind == 14)
+    (kind == 2) | (kind == 3) | (kind == 4) | (kind == 10) | (kind == 14) | (kind == 16)
 }
 
 fn query_kind(query: Query) -> u32
@@ -78,6 +78,7 @@ fn update_kind(update: Update) -> u32
         Update::Clear => 0,
         Update::Begin(how, _, _) => begin_kind(how),
         Update::Free(_) => 3,
+        Update::Remove(_) => 16,
         Update::Written(_, _) => 4,
     }
 }

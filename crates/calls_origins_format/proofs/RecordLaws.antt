@@ -11,7 +11,7 @@ use lib.Dec.{leb, eqb}
 use borrow.Author.Tests.{le-leb, lt-leb, eq-eqb, ne-eqb, leb-true, eqb-true, eqb-false}
 use Rattle.number.proofs.TestLaws.{Test, is-true, is-false, test, and-true, and-false-r}
 use Rattle.plain.specs.declared.Beginning.the-variants.{Unwritten, Written, Literal}
-use Rattle.plain.specs.Call.{clear, begin, free, written, ask, valid, initialised, next, audit, place}
+use Rattle.plain.specs.Call.{clear, begin, free, remove, written, ask, valid, initialised, next, audit, place}
 use Rattle.origins_list.specs.Call.{point, copy, live}
 use Rattle.origins_base.specs.declared.Pointer.{Pointer}
 use Rattle.origins_base.specs.declared.Pointer.the-variants.{Point, Copy, Live}
@@ -40,7 +40,7 @@ decode-own l e = rw e
 pub own-unknown : (k : ℕ) → 11 ≤ k → k ≤ 13 → fieldsOf k ≡ none
 own-unknown k h j =
     no-kind k (omega arith) (omega arith) (omega arith) (omega arith) (omega arith) (omega arith) (omega arith) (omega arith) (omega arith) (omega arith)
-    (omega arith) (omega arith)
+    (omega arith) (omega arith) (omega arith)
 
 -- what the plain program decodes is of none of these kinds
 pub decode-asked : (l : List ℕ) (r : records.Request) → records.decode l ≡ some r → decode l ≡ some (asked r)
@@ -115,6 +115,7 @@ plain-length (call (begin Unwritten b l)) = refl
 plain-length (call (begin Written b l)) = refl
 plain-length (call (begin Literal b l)) = refl
 plain-length (call (free x)) = refl
+plain-length (call (remove x)) = refl
 plain-length (call (written a n)) = refl
 plain-length (call (ask a)) = refl
 plain-length (call (valid true a n from)) = refl

@@ -16,7 +16,7 @@ takes-plain-kinds = decode-asked
 pub record-samples-hold : RecordSamplesHold
 unfolding decoded own decode ownCall records.decode fieldsOf requestOf word
 record-samples-hold = (
-  (refl, (refl, (refl, (refl, (refl, (refl, (refl, (refl, (refl, (refl, (refl, (refl, (refl, (refl, (refl, (refl, (refl, tt))))))))))))))))),
+  (refl, (refl, (refl, (refl, (refl, (refl, (refl, (refl, (refl, (refl, (refl, (refl, (refl, (refl, (refl, (refl, (refl, (refl, (refl, tt))))))))))))))))))),
   (refl, (refl, (refl, tt))),
 )
 

@@ -5,7 +5,7 @@ use mathlib.Core.Option.{Option, none, some}
 use Prim.Native.Nat.{ℕ}
 use Rattle.number.specs.Parts.{Each}
 use Rattle.map.specs.declared.Map.{Map}
-use Rattle.plain.specs.Call.{record-literal, valid-read, done, refusal}
+use Rattle.plain.specs.Call.{record-literal, valid-read, remove, done, refusal}
 use Rattle.shadows.specs.Shadows.{zeroShadows}
 use Rattle.origins_list.specs.Call.{plain, point, copy, live}
 use Rattle.cells_layout.specs.Cells.{noCells}
@@ -30,9 +30,10 @@ decoded =
     (headed 12 11, some (call (point 8192 67305985)))
     ∷ (headed 12 12, some (call (copy 8192 67305985)))
     ∷ (headed 12 13, some (call (live 8192 67305985)))
-    -- plain kinds with the same fields, one of them with one more
+    -- plain kinds with the same fields, one of them with one more, one with the first alone
     ∷ (headed 12 14, some (call (plain (record-literal 8192 67305985))))
     ∷ (headed 16 15 ++ (0 ∷ 32 ∷ 0 ∷ 0 ∷ []), some (call (plain (valid-read 8192 67305985 8192))))
+    ∷ (headed 8 16, some (call (plain (remove 8192))))
     -- another length than the kind's; kinds before and after
     ∷ (headed 11 11, none)
     ∷ (headed 13 12, none)
@@ -41,6 +42,7 @@ decoded =
     ∷ (headed 16 14, none)
     ∷ (headed 12 15, none)
     ∷ (headed 12 16, none)
+    ∷ (headed 12 17, none)
     ∷ (headed 12 0, none)
     -- cut
     ∷ (12 ∷ 0 ∷ 11 ∷ 0 ∷ 0 ∷ 32 ∷ 0 ∷ 0 ∷ 1 ∷ 2 ∷ 3 ∷ [], none)

@@ -54,6 +54,7 @@ fn update_of(s: &[u8], kind: u32) -> Update
     match kind {
         3 => Update::Free(Address(field(s, 0))),
         4 => Update::Written(Address(field(s, 0)), field(s, 1)),
+        16 => Update::Remove(Address(field(s, 0))),
         _ => Update::Begin(
             calls_kinds::beginning_of(kind),
             Address(field(s, 0)),

@@ -20,7 +20,7 @@ use Rattle.plain.specs.Reading.{Reading, nothing, block, damaged}
 use Rattle.plain.specs.Lift.{readingUp, down}
 use Rattle.plain.specs.Join.{only}
 use Rattle.plain.specs.Ops.{markRange, readAny}
-use Rattle.plain.specs.Call.{Call, clear, begin, free, written, ask, valid, initialised, next, audit, place, firstOf, unless}
+use Rattle.plain.specs.Call.{Call, clear, begin, free, remove, written, ask, valid, initialised, next, audit, place, firstOf, unless}
 use Rattle.plain.specs.ShadowCalls.{lengthOf, inOne, shadowsAfter, shadowAnswer}
 use Rattle.heap_layout.specs.Reading.{heapReading}
 use Rattle.plain.proofs.AreaLaws.{heap-shifted, stack-shifted}
@@ -40,14 +40,12 @@ use Rattle.shadows.proofs.ShadowLaws.{Fit, fit-true, map-sound}
 use Rattle.monitor_base.specs.Calls.{refusals, call}
 use Rattle.monitor_base.proofs.LocatingLaws.{heap-room, stack-room}
 use Rattle.demands.specs.Addresses.{inHeap, inStack, outside, readingAt}
-use Rattle.demands.specs.Numbers.{damageMet}
 use Rattle.demands.specs.Demand1.{numberOf}
 use Rattle.demands.specs.Alters.{inPlace, RecordStamps, FreeZeroes, WrittenMarks, LengthsKept}
 use Rattle.demands.proofs.Numbers.{number-first, outside-words, reading-words}
 use Rattle.demands.proofs.Demand1.{accepted-exactly}
 use Rattle.demands.proofs.Begun as begun
 use Rattle.demands.proofs.OverLaws.{at-written}
-use Rattle.demands.proofs.RowLaws.{not-missed}
 use Rattle.demands.proofs.MarkLaws.{range-rest, range-out, range-in}
 
 -- ---- free
@@ -167,7 +165,7 @@ module _ (m : Map) (a n : ℕ) (s : Shadows) (e : numberOf m (written a n) s ≡
         fit = fit-true m s (not-false (lengthsFit m s) (h .1 .0));
         some = omega (arith, eqb-false n 0 (h .1 .1 .0));
         inside = h .1 .1 .1 .0;
-        whole = not-missed (inOne n (readingAt m s a)) (damageMet m (written a n) s) (h .1 .1 .1 .1 .1 .1 .0) (h .1 .1 .1 .1 .1 .1 .1 .0);
+        whole = not-false (inOne n (readingAt m s a)) (h .1 .1 .1 .1 .1 .1 .1 .1 .0);
       }
 
   -- the range lies in the area of its first address
@@ -256,6 +254,7 @@ module _ (m : Map) where
   after-long (begin w b l) s f = stamp-long s (begun w b l)
   after-long (free zero) s f = (refl, refl, refl)
   after-long (free (suc x)) s f = erase-long s (suc x) (lengthOf (readAny (mapRules m) (shadowOps m) s (suc x)))
+  after-long (remove x) s f = erase-long s x (lengthOf (readAny (mapRules m) (shadowOps m) s x))
   after-long (written a n) s f = range-long n a s
   after-long (ask a) s f = (refl, refl, refl)
   after-long (valid w a n from) s f = (refl, refl, refl)

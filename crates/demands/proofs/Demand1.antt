@@ -9,12 +9,12 @@ use Rattle.number.specs.Parts.{Each}
 use Rattle.map.specs.declared.Map.{Map}
 use Rattle.map.specs.Map.{goodMap}
 use Rattle.plain.specs.Areas.{mapRules}
-use Rattle.plain.specs.Call.{Call, clear, begin, free, written, ask, valid, initialised, next, audit, place, Answer, number, refusal, Refusal, firstOf, unless}
+use Rattle.plain.specs.Call.{Call, clear, begin, free, remove, written, ask, valid, initialised, next, audit, place, Answer, number, refusal, Refusal, firstOf, unless}
 use Rattle.plain.specs.ShadowCalls.{shadowsAfter, shadowAnswer}
 use Rattle.plain.proofs.AnswerLaws.{accepted-0}
 use Rattle.shadows.specs.Shadows.{Shadows, lengthsFit, shadowOps}
 use Rattle.monitor_base.specs.Calls.{refusals, call}
-use Rattle.demands.specs.Numbers.{isEmpty, isMisplaced, isUnaligned, isTaken, damageMet, blockMissed, intoLiteral, noRoom, rows}
+use Rattle.demands.specs.Numbers.{isEmpty, isMisplaced, isUnaligned, isTaken, freesStack, damageMet, blockMissed, intoLiteral, noRoom, rows}
 use Rattle.demands.specs.Demand1.{isQuestion, RefusedAltersNothing, QuestionsAlterNothing, ByTheTable, AcceptedExactly, LowestWins, ItsRowHolds, SevenWithoutEight, EightOnlyThere, EightThere}
 use Rattle.demands.proofs.Numbers.{by-rows}
 use Rattle.demands.proofs.RowLaws.{Ascending, passed, first-none, none-first, lowest, first-holds, late}
@@ -42,6 +42,7 @@ questions-alter-nothing m c s q = go c q
     go clear q = absurd (false≢true q)
     go (begin h b l) q = absurd (false≢true q)
     go (free x) q = absurd (false≢true q)
+    go (remove x) q = absurd (false≢true q)
     go (written a n) q = absurd (false≢true q)
     go (ask a) q = same (firstOf (refusals m (ask a) s)) _
     go (valid w a n from) q = same (firstOf (refusals m (valid w a n from) s)) _
@@ -57,7 +58,7 @@ by-the-table = by-rows
 
 ascending : (m : Map) (c : Call) (s : Shadows) → Ascending 0 (rows m c s)
 ascending m c s =
-    (omega arith, (omega arith, (omega arith, (omega arith, (omega arith, (omega arith, (omega arith, (omega arith, (omega arith, (omega arith, tt))))))))))
+    (omega arith, (omega arith, (omega arith, (omega arith, (omega arith, (omega arith, (omega arith, (omega arith, (omega arith, (omega arith, (omega arith, tt)))))))))))
 
 pub accepted-exactly : AcceptedExactly
 accepted-exactly m c s = (
@@ -75,50 +76,46 @@ its-row-holds m c s n = rw (by-rows m c s) (first-holds (rows m c s) (rw (by-row
 
 -- ---- 7 and 8, of the rows
 
--- the rows before 7
+-- the rows before 8
 abbrev early : Map → Call → Shadows → List Refusal
 early m c s =
-    (1, not (goodMap m)) ∷ (2, not (lengthsFit m s)) ∷ (3, isEmpty c) ∷ (4, isMisplaced m c) ∷ (5, isUnaligned m c) ∷ (6, isTaken m c s) ∷ []
+    (1, not (goodMap m)) ∷ (2, not (lengthsFit m s)) ∷ (3, isEmpty c) ∷ (4, isMisplaced m c) ∷ (5, isUnaligned m c) ∷ (6, isTaken m c s)
+    ∷ (15, freesStack m c) ∷ []
 
--- 7, 8, 13 and 14
+-- 8, 7, 13 and 14
 abbrev last : Map → Call → Shadows → List Refusal
-last m c s = (7, blockMissed m c s && not (damageMet m c s)) ∷ (8, damageMet m c s) ∷ (13, intoLiteral m c s) ∷ (14, noRoom m c s) ∷ []
+last m c s = (8, damageMet m c s) ∷ (7, blockMissed m c s) ∷ (13, intoLiteral m c s) ∷ (14, noRoom m c s) ∷ []
 
-below : (m : Map) (c : Call) (s : Shadows) (n : ℕ) → 7 ≤ n → Each (λ (r : Refusal). r .0 ≢ n) (early m c s)
-below m c s n h = (omega arith, (omega arith, (omega arith, (omega arith, (omega arith, (omega arith, tt))))))
+below : (m : Map) (c : Call) (s : Shadows) (n : ℕ) → 7 ≤ n → n ≤ 8 → Each (λ (r : Refusal). r .0 ≢ n) (early m c s)
+below m c s n h k = (omega arith, (omega arith, (omega arith, (omega arith, (omega arith, (omega arith, (omega arith, tt)))))))
 
-seven : (n d t g : Bool) → _≡_ {A = ℕ} (cond (n && not d) 7 (cond d 8 (cond t 13 (cond g 14 0)))) 7 → d ≡ false
+seven : (n d t g : Bool) → _≡_ {A = ℕ} (cond d 8 (cond n 7 (cond t 13 (cond g 14 0)))) 7 → d ≡ false
 seven n false t g e = refl
-seven true true t g e = absurd (omega arith)
-seven false true t g e = absurd (omega arith)
+seven n true t g e = absurd (omega arith)
 
-eight : (n d t g : Bool) → _≡_ {A = ℕ} (cond (n && not d) 7 (cond d 8 (cond t 13 (cond g 14 0)))) 8 → d ≡ true
+eight : (n d t g : Bool) → _≡_ {A = ℕ} (cond d 8 (cond n 7 (cond t 13 (cond g 14 0)))) 8 → d ≡ true
 eight n true t g e = refl
 eight true false t g e = absurd (omega arith)
 eight false false true g e = absurd (omega arith)
 eight false false false true e = absurd (omega arith)
 eight false false false false e = absurd (omega arith)
 
-is-eight : (n d : Bool) (r : ℕ) → d ≡ true → _≡_ {A = ℕ} (cond (n && not d) 7 (cond d 8 r)) 8
-is-eight true true r e = refl
-is-eight false true r e = refl
-is-eight n false r e = absurd (false≢true e)
-
 pub seven-without-eight : SevenWithoutEight
 seven-without-eight m c s e =
     seven (blockMissed m c s) (damageMet m c s) (intoLiteral m c s) (noRoom m c s)
-    (late (early m c s) (last m c s) 7 (below m c s 7 (omega arith)) (sym (by-rows m c s) ∙ e))
+    (late (early m c s) (last m c s) 7 (below m c s 7 (omega arith) (omega arith)) (sym (by-rows m c s) ∙ e))
 
 pub eight-only-there : EightOnlyThere
 eight-only-there m c s e =
     eight (blockMissed m c s) (damageMet m c s) (intoLiteral m c s) (noRoom m c s)
-    (late (early m c s) (last m c s) 8 (below m c s 8 (omega arith)) (sym (by-rows m c s) ∙ e))
+    (late (early m c s) (last m c s) 8 (below m c s 8 (omega arith) (omega arith)) (sym (by-rows m c s) ∙ e))
 
 -- 5 and 6 are record's alone, which has no 8
 no-record : (m : Map) (c : Call) (s : Shadows) → damageMet m c s ≡ true → (isUnaligned m c ≡ false) × (isTaken m c s ≡ false)
 no-record m clear s d = (refl, refl)
 no-record m (begin h b l) s d = absurd (false≢true d)
 no-record m (free x) s d = (refl, refl)
+no-record m (remove x) s d = (refl, refl)
 no-record m (written a n) s d = (refl, refl)
 no-record m (ask a) s d = (refl, refl)
 no-record m (valid w a n from) s d = (refl, refl)
@@ -128,8 +125,6 @@ no-record m audit s d = (refl, refl)
 no-record m (place l k) s d = (refl, refl)
 
 pub eight-there : EightThere
-eight-there m c s ok fit e p d =
+eight-there m c s ok fit e p f d =
     let n = no-record m c s d in
-    by-rows m c s
-    ∙ passed (early m c s) (last m c s) (rw ok, (rw fit, (e, (p, (n .0, (n .1, tt))))))
-    ∙ is-eight (blockMissed m c s) (damageMet m c s) _ d
+    by-rows m c s ∙ passed (early m c s) (last m c s) (rw ok, (rw fit, (e, (p, (n .0, (n .1, (f, tt))))))) ∙ rw d

@@ -18,6 +18,7 @@ pub mod OverLaws
 pub mod PlaceTold
 pub mod Places
 pub mod Readings
+pub mod Removals
 pub mod Rest
 pub mod RowLaws
 pub mod Samples

@@ -8,23 +8,24 @@ use mathlib.Core.Option.{some}
 use Prim.Native.Nat.{ℕ, zero, suc, _+_, _-_, _≤_, _<_}
 use native.Mathlib.Omega.{arith}
 use lib.Dec.{leb, eqb}
-use borrow.Author.Tests.{ne-eqb, eqb-false}
+use borrow.Author.Tests.{ne-eqb, eqb-true, eqb-false}
 use Rattle.number.specs.Parts.{at, inPart}
-use Rattle.number.proofs.TestLaws.{Test, is-true, is-false, test, and-true, false-of, in-facts}
+use Rattle.number.proofs.TestLaws.{Test, is-true, is-false, test, and-true, false-of, not-both, in-facts}
 use Rattle.map.specs.declared.Map.{Map}
 use Rattle.map.specs.Map.{goodMap}
-use Rattle.plain.specs.Block.{Block, len, begun, contains, holds}
+use Rattle.plain.specs.Block.{Block, len, begun, contains, holds, hasBase}
 use Rattle.plain.specs.Blocks.{any, Has}
 use Rattle.plain.specs.Rules.{Placed}
 use Rattle.plain.specs.Areas.{mapRules}
 use Rattle.plain.specs.Reading.{nothing, block}
 use Rattle.plain.specs.Ops.{markRange, readAny}
-use Rattle.plain.specs.Call.{Call, clear, begin, free, written, ask, valid, initialised, next, audit, place, answer, done, yesNo, firstOf, unless, byRules}
+use Rattle.plain.specs.Call.{Call, clear, begin, free, remove, written, ask, valid, initialised, next, audit, place, answer, done, yesNo, firstOf, unless, byRules}
 use Rattle.plain.specs.PlainList.{byList, listAfter, listAnswer, plainStep}
 use Rattle.plain.specs.ShadowCalls.{shadowStep}
 use Rattle.plain.proofs.BlockLaws.{contains-true, true-contains, holds-true, true-holds}
 use Rattle.plain.proofs.KeptLaws.{has-proper, base-inside}
 use Rattle.plain.proofs.LayerLaws.{listed}
+use Rattle.plain.proofs.RunLaws.{free-accepted}
 use Rattle.plain.proofs.HasLaws.{has-any, none-any, has-insert, has-remove, has-marks}
 use Rattle.shadows.specs.Shadows.{Shadows, image, Place, heap, primary, secondary, byteAt, shadowOps}
 use Rattle.shadows.proofs.ShadowLaws.{map-sound}
@@ -33,8 +34,8 @@ use Rattle.monitor_base.specs.Calls.{call}
 use Rattle.monitor_base.proofs.CallLaws.{call-step}
 use Rattle.demands.specs.Addresses.{inHeap, inStack}
 use Rattle.demands.specs.Alters.{inPlace}
-use Rattle.demands.specs.Literals.{HeldBy, ReadExactly, WriteExactly, WrittenRefused, endsBlock, LiteralStays}
-use Rattle.demands.proofs.Numbers.{reading-words}
+use Rattle.demands.specs.Literals.{HeldBy, ReadExactly, WriteExactly, WrittenRefused, endsLiteral, LiteralStays}
+use Rattle.demands.proofs.Numbers.{reading-words, stack-words}
 use Rattle.demands.proofs.Demand3.{on-every-image, stays-placed}
 
 -- ---- valid_read and valid
@@ -103,27 +104,6 @@ written-refused m s ok fit a n b l o w e =
 -- ---- a literal stays
 
 module _ (m : Map) (ok : goodMap m ≡ true) (bs : List Block) (P : Placed (mapRules m) 0 bs) (b : Block) (h : Has b bs) (t : b .literal ≡ true) where
-  after-has : (c : Call) → endsBlock (b .base) c ≡ false → Has b (listAfter c bs)
-  after-has clear e = absurd (true≢false e)
-  after-has (begin w x l) e = has-insert (begun w x l) h
-  after-has (free zero) e = h
-  after-has (free (suc x)) e = has-remove (suc x) (ne-eqb (b .base) (suc x) (λ z. eqb-false (suc x) (b .base) e (sym z))) h
-  after-has (written a n) e = has-marks n a (has-proper (mapRules m) 0 P h t .1) h
-  after-has (ask a) e = h
-  after-has (valid w a n from) e = h
-  after-has (initialised a n) e = h
-  after-has (next a) e = h
-  after-has audit e = h
-  after-has (place l k) e = h
-
-  still-has : (c : Call) → endsBlock (b .base) c ≡ false → Has b ((plainStep (mapRules m) c bs) .0)
-  unfolding plainStep
-  still-has c e = go (firstOf (byRules (mapRules m) c ++ byList (mapRules m) c bs))
-    where
-      go : (k : ℕ) → Has b ((unless k bs (listAfter c bs, listAnswer (mapRules m) c bs)) .0)
-      go zero = after-has c e
-      go (suc k) = h
-
   -- it lies in the stack
   no-heap : inHeap m (b .base) ≡ false
   no-heap = false-of (inHeap m (b .base)) (λ x. let z = has-proper (mapRules m) 0 P h t .0 in true≢false (rw x at z))
@@ -132,6 +112,35 @@ module _ (m : Map) (ok : goodMap m ≡ true) (bs : List Block) (P : Placed (mapR
   in-stack =
       let l = listed (mapRules m) (map-sound m ok) 0 P h in
       rw no-heap at (base-inside (mapRules m) (map-sound m ok) (b .base) (len b) (l .some) (l .fits))
+
+  -- so free of its base is not accepted
+  freed-other : (x : ℕ) → firstOf (byRules (mapRules m) (free (suc x)) ++ byList (mapRules m) (free (suc x)) bs) ≡ 0 → hasBase (suc x) b ≡ false
+  freed-other x z =
+      false-of (hasBase (suc x) b)
+      (λ y. let q : b .base ≡ suc x = eqb-true (b .base) (suc x) y in
+      not-both (inStack m (suc x)) (ap (inStack m) (sym q) ∙ in-stack) (sym (stack-words m ok (suc x)) ∙ free-accepted (mapRules m) x bs z .1))
+
+  after-has : (c : Call) → firstOf (byRules (mapRules m) c ++ byList (mapRules m) c bs) ≡ 0 → endsLiteral (b .base) c ≡ false → Has b (listAfter c bs)
+  after-has clear z e = absurd (true≢false e)
+  after-has (begin w x l) z e = has-insert (begun w x l) h
+  after-has (free zero) z e = h
+  after-has (free (suc x)) z e = has-remove (suc x) (freed-other x z) h
+  after-has (remove x) z e = has-remove x (ne-eqb (b .base) x (λ y. eqb-false x (b .base) e (sym y))) h
+  after-has (written a n) z e = has-marks n a (has-proper (mapRules m) 0 P h t .1) h
+  after-has (ask a) z e = h
+  after-has (valid w a n from) z e = h
+  after-has (initialised a n) z e = h
+  after-has (next a) z e = h
+  after-has audit z e = h
+  after-has (place l k) z e = h
+
+  still-has : (c : Call) → endsLiteral (b .base) c ≡ false → Has b ((plainStep (mapRules m) c bs) .0)
+  unfolding plainStep
+  still-has c e = go (firstOf (byRules (mapRules m) c ++ byList (mapRules m) c bs)) refl
+    where
+      go : (k : ℕ) → firstOf (byRules (mapRules m) c ++ byList (mapRules m) c bs) ≡ k → Has b ((unless k bs (listAfter c bs, listAnswer (mapRules m) c bs)) .0)
+      go zero z = after-has c z e
+      go (suc k) z = h
 
 -- its bytes are those that it makes, on every image of a list that has it
 same-bytes : (m : Map) → goodMap m ≡ true → (bs cs : List Block) → Placed (mapRules m) 0 bs → Placed (mapRules m) 0 cs → (b : Block) → Has b bs → Has b cs

@@ -8,18 +8,20 @@ use lib.Dec.{leb, eqb}
 use borrow.Author.Tests.{ne-eqb}
 use Rattle.number.specs.Bits.{bit}
 use Rattle.map.specs.declared.Map.{Map}
+use Rattle.map.specs.Map.{goodMap}
+use Rattle.map.proofs.MapLaws.{Good, good-true, within-true}
 use Rattle.plain.specs.declared.Beginning.{Beginning}
 use Rattle.plain.specs.declared.Beginning.the-variants.{Unwritten, Written, Literal}
 use Rattle.plain.specs.Areas.{placeLength, mapRules}
 use Rattle.plain.specs.Ops.{readAny}
 use Rattle.plain.specs.Reading.{Reading, nothing, block, damaged}
-use Rattle.plain.specs.Call.{Call, clear, begin, free, written, ask, valid, initialised, next, audit, place, number, firstOf, allows, byRules}
+use Rattle.plain.specs.Call.{Call, clear, begin, free, remove, written, ask, valid, initialised, next, audit, place, number, firstOf, allows, isStack, byRules}
 use Rattle.plain.specs.ShadowCalls.{isDamaged, isBlock, isFirst, climb, stop, search, byShadows}
 use Rattle.plain.proofs.AnswerLaws.{accepted-0}
 use Rattle.plain.proofs.RunLaws.{unless-number}
 use Rattle.heap_layout.specs.Ops.{heapVacant}
 use Rattle.stack_layout.specs.Ops.{stackVacant}
-use Rattle.shadows.specs.Shadows.{Shadows, shadowOps}
+use Rattle.shadows.specs.Shadows.{Shadows, lengthsFit, shadowOps}
 use Rattle.monitor_base.specs.Calls.{refusals, call}
 use Rattle.demands.specs.Addresses.{inHeap, inStack, outside, endOfAreas, readingAt}
 use Rattle.demands.specs.Numbers.{isMisplaced, placeZero, damagedFirst, noneBegins, damageMet, blockMissed, rows}
@@ -77,6 +79,24 @@ either false k x y = refl
 
 pub outside-words : (m : Map) (a : ℕ) → not (mapRules m .inside a) ≡ outside m a
 outside-words m a = neither (inHeap m a) (inStack m a)
+
+-- an address of the stack, which is not the heap's
+on-stack : (h k : Bool) → (h ≡ true → k ≡ true → ⊥) → ((h || k) && not (cond h true false)) ≡ k
+on-stack true true n = absurd (n refl refl)
+on-stack true false n = refl
+on-stack false true n = refl
+on-stack false false n = refl
+
+-- the areas of a good map share no address
+pub apart-words : (m : Map) → goodMap m ≡ true → (a : ℕ) → inHeap m a ≡ true → inStack m a ≡ true → ⊥
+apart-words m ok a h k =
+    let g = good-true m ok in
+    let u = within-true (m .«heap_start») (m .«heap_size») a h in
+    let v = within-true (m .«stack_start») (m .«stack_size») a k in
+    g .noShare (omega arith) (omega arith)
+
+pub stack-words : (m : Map) → goodMap m ≡ true → (a : ℕ) → isStack (mapRules m) a ≡ inStack m a
+stack-words m ok a = on-stack (inHeap m a) (inStack m a) (apart-words m ok a)
 
 pub misplaced-words : (m : Map) (how : Beginning) (b l : ℕ) → not (allows (mapRules m) how b l) ≡ isMisplaced m (begin how b l)
 misplaced-words m how b l = go how
@@ -146,38 +166,38 @@ search-words m s a = ap (λ (rd : ℕ → Reading). climb rd a (endOfAreas m - a
 
 -- ---- the rows
 
--- 8 before 7, or 7 where 8 does not hold before 8; r is what comes after both
-eight-first : (d n k : Bool) (r : ℕ) → (d ≡ false → n ≡ k) → _≡_ {A = ℕ} (cond d 8 (cond n 7 r)) (cond (k && not d) 7 (cond d 8 r))
-eight-first true n true r h = refl
-eight-first true n false r h = refl
-eight-first false n k r h = rw (h refl) (go k)
-  where
-    go : (t : Bool) → _≡_ {A = ℕ} (cond t 7 r) (cond (t && true) 7 r)
-    go true = refl
-    go false = refl
+-- what comes after 8 is looked at where 8 does not hold
+after-eight : (d n k : Bool) (r : ℕ) → (d ≡ false → n ≡ k) → _≡_ {A = ℕ} (cond d 8 (cond n 7 r)) (cond d 8 (cond k 7 r))
+after-eight true n k r h = refl
+after-eight false n k r h = rw (h refl)
 
--- the last rows of a call that has 7 and 8
-last-two : (m : Map) (c : Call) (s : Shadows) (n : Bool) (r : ℕ) → (damageMet m c s ≡ false → n ≡ blockMissed m c s)
-    → _≡_ {A = ℕ} (cond (damageMet m c s) 8 (cond n 7 r)) (cond (blockMissed m c s && not (damageMet m c s)) 7 (cond (damageMet m c s) 8 r))
-last-two m c s n r h = eight-first (damageMet m c s) n (blockMissed m c s) r h
-
-pub later-rows : (m : Map) (c : Call) (s : Shadows)
+pub later-rows : (m : Map) → goodMap m ≡ true → (c : Call) (s : Shadows)
     → firstOf (byRules (mapRules m) c ++ byShadows (mapRules m) (shadowOps m) c s) ≡ firstOf (pastTwo (rows m c s))
-later-rows m clear s = refl
-later-rows m (begin h b l) s = rw (misplaced-words m h b l, unaligned-words m b, taken-words m s b l)
-later-rows m (free zero) s = refl
-later-rows m (free (suc x)) s = rw (outside-words m (suc x), reading-words m s (suc x), last-two m (free (suc x)) s _ 0 (λ d. refl))
-later-rows m (written a n) s = rw (outside-words m a, reading-words m s a, last-two m (written a n) s _ _ (λ d. refl))
-later-rows m (ask a) s = rw (outside-words m a, reading-words m s a, last-two m (ask a) s _ 0 (λ d. refl))
-later-rows m (valid w a n from) s = rw (reading-words m s a, reading-words m s from)
-later-rows m (initialised a n) s = rw (reading-words m s a)
-later-rows m (next a) s =
-    rw (search-words m s a, climb-damaged (readingAt m s) a (endOfAreas m - a), last-two m (next a) s _ 0 (climb-none (readingAt m s) a (endOfAreas m - a)))
-later-rows m audit s = refl
-later-rows m (place l k) s = rw (room-words m s l k)
+later-rows m ok clear s = refl
+later-rows m ok (begin h b l) s = rw (misplaced-words m h b l, unaligned-words m b, taken-words m s b l)
+later-rows m ok (free zero) s = refl
+later-rows m ok (free (suc x)) s = rw (outside-words m (suc x), stack-words m ok (suc x), reading-words m s (suc x))
+later-rows m ok (remove x) s = rw (stack-words m ok x, reading-words m s x)
+later-rows m ok (written a n) s = rw (outside-words m a, reading-words m s a)
+later-rows m ok (ask a) s = rw (outside-words m a, reading-words m s a)
+later-rows m ok (valid w a n from) s = rw (reading-words m s a, reading-words m s from)
+later-rows m ok (initialised a n) s = rw (reading-words m s a)
+later-rows m ok (next a) s =
+    rw (
+      search-words m s a,
+      climb-damaged (readingAt m s) a (endOfAreas m - a),
+      after-eight (damageMet m (next a) s) _ (blockMissed m (next a) s) 0 (climb-none (readingAt m s) a (endOfAreas m - a)),
+    )
+later-rows m ok audit s = refl
+later-rows m ok (place l k) s = rw (room-words m s l k)
+
+-- where the map breaks a rule, 1 comes first
+pub by-goodness : (g : Bool) (j k : ℕ) → (g ≡ true → j ≡ k) → _≡_ {A = ℕ} (cond (not g) 1 j) (cond (not g) 1 k)
+by-goodness true j k h = h refl
+by-goodness false j k h = refl
 
 same-rows : (m : Map) (c : Call) (s : Shadows) → firstOf (refusals m c s) ≡ firstOf (rows m c s)
-same-rows m c s = rw (later-rows m c s)
+same-rows m c s = by-goodness (goodMap m) _ _ (λ ok. ap (λ (k : ℕ). cond (not (lengthsFit m s)) 2 k) (later-rows m ok c s))
 
 pub by-rows : (m : Map) (c : Call) (s : Shadows) → number ((call m c s) .1) ≡ firstOf (rows m c s)
 by-rows m c s = number-first m c s ∙ same-rows m c s

@@ -128,7 +128,7 @@ module _ (m : Map) (s : Shadows) (l k : ℕ) where
   accepted e =
       let r = accepted-exactly m (place l k) s .1 e in
       go (best (placeLength 8 l) looked) refl (not-false (goodMap m) (r .0)) (not-false (lengthsFit m s) (r .1 .0)) (eqb-false l 0 (r .1 .1 .0))
-      (room-words m s l k ∙ r .1 .1 .1 .1 .1 .1 .1 .1 .1 .0)
+      (room-words m s l k ∙ r .1 .1 .1 .1 .1 .1 .1 .1 .1 .1 .0)
     where
       not-false : (b : Bool) → not b ≡ false → b ≡ true
       not-false true e = refl
@@ -254,7 +254,7 @@ module _ (m : Map) (s : Shadows) (l k i n : ℕ) (ok : goodMap m ≡ true) (fit 
   accepts : (how : Beginning) → isMisplaced m (begin how base l) ≡ false → numberOf m (begin how base l) s ≡ 0
   accepts how e =
       accepted-exactly m (begin how base l) s .0
-      (rw ok, (rw fit, (ne-eqb l 0 some, (e, (rw (in-heap, aligned), (rw all-zero, (refl, (refl, (refl, (refl, tt))))))))))
+      (rw ok, (rw fit, (ne-eqb l 0 some, (e, (rw (in-heap, aligned), (rw all-zero, (refl, (refl, (refl, (refl, (refl, tt)))))))))))
 
 pub placed-recorded : PlacedRecorded
 placed-recorded m s l k b c u e =

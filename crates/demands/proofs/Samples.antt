@@ -27,10 +27,11 @@ use Rattle.demands.specs.GivenShadows.{put, allGiven}
 use Rattle.demands.specs.Samples.{sameBytes, runHolds, allHold, table, edges, begunWritten, larger, SamplesHold}
 use Rattle.demands.specs.LiteralSamples.{literals, LiteralSamplesHold}
 use Rattle.demands.specs.PlaceSamples.{places, placesInRun, placesAtTop, PlaceSamplesHold}
+use Rattle.demands.specs.RemovalSamples.{removals, RemovalSamplesHold}
 
-computed : SamplesHold × DamageSamplesHold × LiteralSamplesHold × PlaceSamplesHold
-unfolding byteOf word bitOf withBit ofBits ones tab zeros over goodArea apart goodMap segments total layer markRange rangeMarked readAny climb cellByte covers own heapByte heapReading agree matches marksAt heapWalk placeLength heapVacant heapStamp heapErase heapMark heapMarked shortCode pieceOf codeOf pieceByte lowBits primaryOf secondaryOf lengthFrom shortLength shortOffset primaryOwn secondaryOwn fitted badPiece longReading codeReading stackReading isClear isByte lengthAt stackWalk stackVacant stackStamp stackErase stackMark stackMarked lengthsFit call sameBytes runHolds allHold table edges begunWritten literals larger put allGiven readings numbers callsOnDamage disagreeing gapsAfter best heapGaps places placesInRun placesAtTop
-computed = ((refl, refl, refl, refl), (refl, refl, refl, refl), refl, (refl, refl, refl))
+computed : SamplesHold × DamageSamplesHold × LiteralSamplesHold × PlaceSamplesHold × RemovalSamplesHold
+unfolding byteOf word bitOf withBit ofBits ones tab zeros over goodArea apart goodMap segments total layer markRange rangeMarked readAny climb cellByte covers own heapByte heapReading agree matches marksAt heapWalk placeLength heapVacant heapStamp heapErase heapMark heapMarked shortCode pieceOf codeOf pieceByte lowBits primaryOf secondaryOf lengthFrom shortLength shortOffset primaryOwn secondaryOwn fitted badPiece longReading codeReading stackReading isClear isByte lengthAt stackWalk stackVacant stackStamp stackErase stackMark stackMarked lengthsFit call sameBytes runHolds allHold table edges begunWritten literals larger put allGiven readings numbers callsOnDamage disagreeing gapsAfter best heapGaps places placesInRun placesAtTop removals
+computed = ((refl, refl, refl, refl), (refl, refl, refl, refl), refl, (refl, refl, refl), refl)
 
 pub samples-hold : SamplesHold
 samples-hold = computed .0
@@ -43,3 +44,6 @@ literal-samples-hold = computed .2
 
 pub place-samples-hold : PlaceSamplesHold
 place-samples-hold = computed .3
+
+pub removal-samples-hold : RemovalSamplesHold
+removal-samples-hold = computed .4

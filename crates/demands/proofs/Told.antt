@@ -15,7 +15,7 @@ use Rattle.plain.specs.Block.{Block}
 use Rattle.plain.specs.Rules.{Placed}
 use Rattle.plain.specs.Reading.{Reading, nothing, block, damaged, lookup}
 use Rattle.plain.specs.Ops.{rangeMarked}
-use Rattle.plain.specs.Call.{Call, clear, begin, free, written, ask, valid, initialised, next, audit, place, Answer, answer, yesNo, firstOf}
+use Rattle.plain.specs.Call.{Call, clear, begin, free, remove, written, ask, valid, initialised, next, audit, place, Answer, answer, yesNo, firstOf}
 use Rattle.plain.specs.ShadowCalls.{isDamaged, isFirst, inOne, isLiteral, sameBlock, stop, climb, nextAnswer, shadowAnswer}
 use Rattle.shadows.specs.Shadows.{Shadows, lengthsFit, shadowOps, image}
 use Rattle.shadows.proofs.ShadowLaws.{map-sound}
@@ -111,6 +111,7 @@ pub answers-read : AnswersRead
 answers-read m clear s e = answered m clear s e
 answers-read m (begin w b l) s e = answered m (begin w b l) s e
 answers-read m (free x) s e = answered m (free x) s e
+answers-read m (remove x) s e = answered m (remove x) s e
 answers-read m (written a n) s e = answered m (written a n) s e
 answers-read m (ask a) s e =
     let h = accepted-exactly m (ask a) s .1 e in

@@ -1,5 +1,5 @@
 -- Demand 1, what the calls that write alter, on any shadows, images or not: where record, free and written are accepted, every byte afterwards.
--- (What clear leaves is `ClearedRun` of Demand3.antt.) Proved in proofs/Alters.antt. Assumes nothing.
+-- (What remove leaves is `RemoveByReading` of Removals.antt, what clear leaves `ClearedRun` of Demand3.antt.) Proved in proofs/Alters.antt. Assumes nothing.
 use mathlib.Core.Path.{_≡_}
 use mathlib.Core.Logic.{_≢_, _⊎_}
 use mathlib.Core.Bool.{Bool, true, false, cond, not, _&&_}

@@ -5,7 +5,7 @@ use mathlib.Core.Path.{_≡_}
 use mathlib.Core.Bool.{true}
 use mathlib.Core.List.{List, [], _∷_}
 use Prim.Native.Nat.{ℕ, _+_, _*_, _-_}
-use Rattle.plain.specs.Call.{Call, record-block, record-literal, free, written, ask, valid-write, valid-read, initialised, next, audit, Answer, answer, refusal, done}
+use Rattle.plain.specs.Call.{Call, record-block, record-literal, free, remove, written, ask, valid-write, valid-read, initialised, next, audit, Answer, answer, refusal, done}
 use Rattle.demands.specs.GivenShadows.{Given, allGiven}
 use Rattle.demands.specs.ByteSamples.{numbers, disagreeing}
 
@@ -169,8 +169,17 @@ broken c r =
 unfoldable pub callsOnDamage : List Given
 callsOnDamage =
     broken (free 4112) (refusal 8)
-    ∷ broken (free 8192) (refusal 8)
+    ∷ broken (free 4119) (refusal 8)
+    ∷ broken (free 4105) (refusal 7)
     ∷ broken (free 0) done
+    -- 15 comes before 8 and 7, and so does 4 of remove at a heap address
+    ∷ broken (free 8192) (refusal 15)
+    ∷ broken (free 8200) (refusal 15)
+    ∷ broken (remove 8192) (refusal 8)
+    ∷ broken (remove 8200) done
+    ∷ broken (remove 8201) (refusal 7)
+    ∷ broken (remove 4112) (refusal 4)
+    ∷ broken (remove 4104) (refusal 4)
     -- for written and initialised, the first byte's reading
     ∷ broken (written 4112 1) (refusal 8)
     ∷ broken (written 4108 8) done
@@ -200,7 +209,7 @@ callsOnDamage =
     ∷ broken (record-literal 4120 1) (refusal 4)
     ∷ broken (record-literal 8192 1) (refusal 6)
     ∷ broken (record-literal 8193 1) done
-    -- 3 comes before 8; 4 never meets it, since an address outside both areas is in no block
+    -- 3 comes before 8; but for remove at a heap address (above) 4 never meets it, since an address outside both areas is in no block
     ∷ broken (written 4112 0) (refusal 3)
     ∷ broken (valid-write 4112 0 4112) (refusal 3)
     ∷ broken (valid-read 4112 0 4112) (refusal 3)

@@ -1,19 +1,20 @@
 -- Demand 1, what it says of every call on every input, any map, any lengths, any bytes: accepted exactly if no row of the table of refusals
--- holds, else refused by the lowest number whose row holds, with zero fields and no byte altered. Each statement is proved in
+-- holds, else refused by the first number, in their order (`turn`), whose row holds, with zero fields and no byte altered. Each statement is proved in
 -- proofs/Demand1.antt. That the code does what `call` says, stays in the lent memory and ends, is the contract of each function of `monitor`.
 -- Assumes nothing.
 use mathlib.Core.Path.{_≡_}
 use mathlib.Core.Logic.{_≢_, _⊎_}
-use mathlib.Core.Bool.{Bool, true, false}
+use mathlib.Core.Bool.{Bool, true, false, cond}
 use mathlib.Core.List.{List, [], _∷_}
 use Prim.Native.Nat.{ℕ, _≤_}
+use lib.Dec.{eqb}
 use Rattle.number.specs.Parts.{Each}
 use Rattle.map.specs.declared.Map.{Map}
 use Rattle.map.specs.Map.{goodMap}
-use Rattle.plain.specs.Call.{Call, clear, begin, free, written, ask, valid, initialised, next, audit, place, answer, number, Refusal, firstOf}
+use Rattle.plain.specs.Call.{Call, clear, begin, free, remove, written, ask, valid, initialised, next, audit, place, answer, number, Refusal, firstOf}
 use Rattle.shadows.specs.Shadows.{Shadows, lengthsFit}
 use Rattle.monitor_base.specs.Calls.{call}
-use Rattle.demands.specs.Numbers.{isEmpty, isMisplaced, damageMet, rows}
+use Rattle.demands.specs.Numbers.{isEmpty, isMisplaced, freesStack, damageMet, rows}
 
 -- the number of a call
 abbrev pub numberOf : Map → Call → Shadows → ℕ
@@ -32,6 +33,7 @@ abbrev pub isQuestion : Call → Bool
 isQuestion clear = false
 isQuestion (begin h b l) = false
 isQuestion (free x) = false
+isQuestion (remove x) = false
 isQuestion (written a n) = false
 isQuestion (ask a) = true
 isQuestion (valid w a n from) = true
@@ -51,9 +53,14 @@ ByTheTable = (m : Map) (c : Call) (s : Shadows) → numberOf m c s ≡ firstOf (
 abbrev pub AcceptedExactly : Type 0
 AcceptedExactly = (m : Map) (c : Call) (s : Shadows) → (NoneHolds (rows m c s) → numberOf m c s ≡ 0) × (numberOf m c s ≡ 0 → NoneHolds (rows m c s))
 
--- "The lowest number wins": of every row that holds, the number is at most that row's
+-- "The lowest number wins", but 8 before 7, which is given "never where 8 holds", and S-7's 15 "after 4 and ahead of 7 and 8": 15 has the turn of 7,
+-- and 7 the turn 9, which is no call's number; every other number has its own
+abbrev pub turn : ℕ → ℕ
+turn k = cond (eqb k 15) 7 (cond (eqb k 7) 9 k)
+
+-- of every row that holds, the number's turn is at most that row's
 abbrev pub LowestWins : Type 0
-LowestWins = (m : Map) (c : Call) (s : Shadows) → Each (λ (r : Refusal). r .1 ≡ true → numberOf m c s ≤ r .0) (rows m c s)
+LowestWins = (m : Map) (c : Call) (s : Shadows) → Each (λ (r : Refusal). r .1 ≡ true → turn (numberOf m c s) ≤ turn (r .0)) (rows m c s)
 
 -- one of the rows is so
 abbrev pub SomeRow : (Refusal → Type 0) → List Refusal → Type 0
@@ -74,8 +81,8 @@ SevenWithoutEight = (m : Map) (c : Call) (s : Shadows) → numberOf m c s ≡ 7 
 abbrev pub EightOnlyThere : Type 0
 EightOnlyThere = (m : Map) (c : Call) (s : Shadows) → numberOf m c s ≡ 8 → damageMet m c s ≡ true
 
--- and always there, unless 1, 2, 3 or 4 comes first (5 and 6 are record's alone, which has no 8)
+-- and always there, unless 1, 2, 3, 4 or 15 comes first (5 and 6 are record's alone, which has no 8)
 abbrev pub EightThere : Type 0
 EightThere =
     (m : Map) (c : Call) (s : Shadows) → goodMap m ≡ true → lengthsFit m s ≡ true → isEmpty c ≡ false → isMisplaced m c ≡ false
-    → damageMet m c s ≡ true → numberOf m c s ≡ 8
+    → freesStack m c ≡ false → damageMet m c s ≡ true → numberOf m c s ≡ 8

@@ -12,6 +12,8 @@ pub mod Good
 pub mod MapSamples
 pub mod Null
 pub mod Places
+pub mod Removals
+pub mod RemovalSamples
 pub mod PlaceSamples
 pub mod Literals
 pub mod LiteralSamples

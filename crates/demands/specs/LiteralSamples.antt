@@ -4,12 +4,12 @@ use mathlib.Core.Path.{_≡_}
 use mathlib.Core.Bool.{true}
 use mathlib.Core.List.{List, [], _∷_}
 use Prim.Native.Nat.{ℕ}
-use Rattle.plain.specs.Call.{record-block, record-literal, free, written, ask, valid-write, valid-read, initialised, next, audit, answer, refusal, done}
+use Rattle.plain.specs.Call.{record-block, record-literal, remove, written, ask, valid-write, valid-read, initialised, next, audit, answer, refusal, done}
 use Rattle.demands.specs.Samples.{Sample, sampleMap, allHold, one, zeros8}
 
 unfoldable pub literals : List Sample
 literals =
-    -- a short one has codes 4 to 6, each with both low bits; ask, initialised, next and audit take it for a written block; free ends it
+    -- a short one has codes 4 to 6, each with both low bits; ask, initialised, next and audit take it for a written block; remove ends it
     record {
       calls = record-literal 8192 3 ∷ ask 8194 ∷ initialised 8192 3 ∷ next 8190 ∷ audit ∷ [];
       answers = done ∷ answer 0 8192 3 2 1 ∷ answer 0 1 0 0 0 ∷ answer 0 8192 3 0 0 ∷ answer 0 0 1 3 3 ∷ [];
@@ -18,7 +18,7 @@ literals =
       secondary = (0, zeros8);
     }
     ∷ record {
-      calls = record-literal 8192 3 ∷ free 8193 ∷ free 8192 ∷ audit ∷ record-block 8192 3 ∷ valid-write 8192 3 8192 ∷ [];
+      calls = record-literal 8192 3 ∷ remove 8193 ∷ remove 8192 ∷ audit ∷ record-block 8192 3 ∷ valid-write 8192 3 8192 ∷ [];
       answers = done ∷ refusal 7 ∷ done ∷ answer 0 0 0 0 0 ∷ done ∷ answer 0 1 0 0 0 ∷ [];
       heap = (0, []);
       primary = (0, 16 ∷ 20 ∷ 24 ∷ 0 ∷ []);

@@ -14,7 +14,7 @@ use Rattle.plain.specs.Blocks.{Has}
 use Rattle.plain.specs.Rules.{Placed}
 use Rattle.plain.specs.Areas.{mapRules}
 use Rattle.plain.specs.Reading.{Reading, nothing, block, damaged}
-use Rattle.plain.specs.Call.{Call, clear, begin, record-written, record-literal, free, written, ask, valid, valid-write, valid-read, initialised, next, audit, place, answer}
+use Rattle.plain.specs.Call.{Call, clear, begin, record-written, record-literal, free, remove, written, ask, valid, valid-write, valid-read, initialised, next, audit, place, answer}
 use Rattle.plain.specs.PlainList.{plainStep}
 use Rattle.shadows.specs.Shadows.{Shadows, lengthsFit, image, Place, heap, primary, secondary, byteAt}
 use Rattle.monitor_base.specs.Calls.{call}
@@ -74,25 +74,26 @@ WrittenRefused =
     (m : Map) (s : Shadows) → goodMap m ≡ true → lengthsFit m s ≡ true → (a n b l o w : ℕ) → readingAt m s a ≡ block b l o w true
     → call m (written a n) s ≡ (s, answer (cond (eqb n 0) 3 (cond (leb (o + n) l) 13 7)) 0 0 0 0)
 
--- the calls that end the block with this base
-abbrev pub endsBlock : (base : ℕ) → Call → Bool
-endsBlock x clear = true
-endsBlock x (begin h b l) = false
-endsBlock x (free y) = eqb y x
-endsBlock x (written a n) = false
-endsBlock x (ask a) = false
-endsBlock x (valid w a n from) = false
-endsBlock x (initialised a n) = false
-endsBlock x (next a) = false
-endsBlock x audit = false
-endsBlock x (place l k) = false
+-- the calls that may end the literal with this base: free is none of them, as it lies in the stack
+abbrev pub endsLiteral : (base : ℕ) → Call → Bool
+endsLiteral x clear = true
+endsLiteral x (begin h b l) = false
+endsLiteral x (free y) = false
+endsLiteral x (remove y) = eqb y x
+endsLiteral x (written a n) = false
+endsLiteral x (ask a) = false
+endsLiteral x (valid w a n from) = false
+endsLiteral x (initialised a n) = false
+endsLiteral x (next a) = false
+endsLiteral x audit = false
+endsLiteral x (place l k) = false
 
 -- on every image no call but these ends a literal or alters a byte of it: it stays on the list, marks included, and each byte of its place, primary
 -- and secondary, is as before
 abbrev pub LiteralStays : Type 0
 LiteralStays =
     (m : Map) → goodMap m ≡ true → (bs : List Block) → Placed (mapRules m) 0 bs → (b : Block) → Has b bs → b .literal ≡ true
-    → (c : Call) → endsBlock (b .base) c ≡ false
+    → (c : Call) → endsLiteral (b .base) c ≡ false
     → Has b ((plainStep (mapRules m) c bs) .0)
     × ((q : Place) → inPlace m (b .base) (len b) q ≡ true → byteAt ((call m c (image m bs)) .0) q ≡ byteAt (image m bs) q)
 

@@ -11,10 +11,10 @@ use Rattle.map.specs.Map.{goodMap}
 use Rattle.plain.specs.declared.Beginning.the-variants.{Unwritten, Written, Literal}
 use Rattle.plain.specs.Areas.{segments}
 use Rattle.plain.specs.Reading.{Reading}
-use Rattle.plain.specs.Call.{Call, clear, begin, free, written, ask, valid, initialised, next, audit, place, Refusal}
+use Rattle.plain.specs.Call.{Call, clear, begin, free, remove, written, ask, valid, initialised, next, audit, place, Refusal}
 use Rattle.plain.specs.ShadowCalls.{isDamaged, isBlock, isFirst, inOne, isLiteral, isNone}
 use Rattle.shadows.specs.Shadows.{Shadows, lengthsFit, shadowOps}
-use Rattle.demands.specs.Addresses.{inHeap, outside, endOfAreas, readingAt}
+use Rattle.demands.specs.Addresses.{inHeap, inStack, outside, endOfAreas, readingAt}
 use Rattle.demands.specs.Gaps.{heapSegments, gapSize, isLooked}
 
 -- 3, "length or n is 0": record, written, valid, initialised; S-6: "A length of 0 gets 3"
@@ -22,6 +22,7 @@ abbrev pub isEmpty : Call → Bool
 isEmpty clear = false
 isEmpty (begin h b l) = eqb l 0
 isEmpty (free x) = false
+isEmpty (remove x) = false
 isEmpty (written a n) = eqb n 0
 isEmpty (ask a) = false
 isEmpty (valid w a n from) = eqb n 0
@@ -37,7 +38,8 @@ fitsArea m b l =
     (leb (b + l) (m .«stack_start» + m .«stack_size»))
 
 -- 4, "address in neither area; for record also when the block, or a heap block's header, does not fit the area of its base": record, free,
--- written, ask. S-2: not free of address 0. S-5: kind 14 "with 4 outside the stack area"
+-- written, ask. S-2: not free of address 0. S-5: kind 14 "with 4 outside the stack area". S-7: kind 16 "gets 4 on every address outside the stack
+-- area, 0 included"
 abbrev pub isMisplaced : Map → Call → Bool
 isMisplaced m clear = false
 isMisplaced m (begin Unwritten b l) = outside m b || not (fitsArea m b l)
@@ -45,6 +47,7 @@ isMisplaced m (begin Written b l) = outside m b || not (fitsArea m b l)
 isMisplaced m (begin Literal b l) = inHeap m b || outside m b || not (fitsArea m b l)
 isMisplaced m (free zero) = false
 isMisplaced m (free (suc x)) = outside m (suc x)
+isMisplaced m (remove x) = not (inStack m x)
 isMisplaced m (written a n) = outside m a
 isMisplaced m (ask a) = outside m a
 isMisplaced m (valid w a n from) = false
@@ -58,6 +61,7 @@ abbrev pub isUnaligned : Map → Call → Bool
 isUnaligned m clear = false
 isUnaligned m (begin h b l) = inHeap m b && not (eqb (b % 8) 0)
 isUnaligned m (free x) = false
+isUnaligned m (remove x) = false
 isUnaligned m (written a n) = false
 isUnaligned m (ask a) = false
 isUnaligned m (valid w a n from) = false
@@ -77,6 +81,7 @@ abbrev pub isTaken : Map → Call → Shadows → Bool
 isTaken m clear s = false
 isTaken m (begin h b l) s = not (placeZero m s b l)
 isTaken m (free x) s = false
+isTaken m (remove x) s = false
 isTaken m (written a n) s = false
 isTaken m (ask a) s = false
 isTaken m (valid w a n from) s = false
@@ -96,13 +101,15 @@ noneBegins rd a zero = true
 noneBegins rd a (suc n) = not (isFirst (rd a)) && noneBegins rd (suc a) n
 
 -- 8, "a reading is damaged (for valid, either reading; for written and initialised, the first byte's; for next, one met before an answer);
--- for audit, no image": all but clear, record and, as it takes no reading, place. S-2: free of address 0 takes no reading. What audit finds is no
+-- for audit, no image": all but clear, record and, as it takes no reading, place. S-2: free of address 0 takes no reading. S-7: of a stack
+-- address free is 15 before it. What audit finds is no
 -- image: Demand2.antt, `AuditOnly` and `AuditRefuses`
 abbrev pub damageMet : Map → Call → Shadows → Bool
 damageMet m clear s = false
 damageMet m (begin h b l) s = false
 damageMet m (free zero) s = false
 damageMet m (free (suc x)) s = isDamaged (readingAt m s (suc x))
+damageMet m (remove x) s = isDamaged (readingAt m s x)
 damageMet m (written a n) s = isDamaged (readingAt m s a)
 damageMet m (ask a) s = isDamaged (readingAt m s a)
 damageMet m (valid w a n from) s = isDamaged (readingAt m s a) || isDamaged (readingAt m s from)
@@ -112,12 +119,14 @@ damageMet m audit s = isNone (shadowOps m .audit s)
 damageMet m (place l k) s = false
 
 -- 7, "no block there; for free, base not a block's first byte; for written, range not in one block; for next, none follows": free, written,
--- ask, next. S-2: not free of address 0
+-- ask, next. S-2: not free of address 0. S-7: kind 16 "removes a stack block as free used to". "never where 8 holds" is in
+-- the order of `rows`
 abbrev pub blockMissed : Map → Call → Shadows → Bool
 blockMissed m clear s = false
 blockMissed m (begin h b l) s = false
 blockMissed m (free zero) s = false
 blockMissed m (free (suc x)) s = not (isFirst (readingAt m s (suc x)))
+blockMissed m (remove x) s = not (isFirst (readingAt m s x))
 blockMissed m (written a n) s = not (inOne n (readingAt m s a))
 blockMissed m (ask a) s = not (isBlock (readingAt m s a))
 blockMissed m (valid w a n from) s = false
@@ -131,6 +140,7 @@ abbrev pub intoLiteral : Map → Call → Shadows → Bool
 intoLiteral m clear s = false
 intoLiteral m (begin h b l) s = false
 intoLiteral m (free x) s = false
+intoLiteral m (remove x) s = false
 intoLiteral m (written a n) s = isLiteral (readingAt m s a)
 intoLiteral m (ask a) s = false
 intoLiteral m (valid w a n from) s = false
@@ -149,6 +159,7 @@ abbrev pub noRoom : Map → Call → Shadows → Bool
 noRoom m clear s = false
 noRoom m (begin h b l) s = false
 noRoom m (free x) s = false
+noRoom m (remove x) s = false
 noRoom m (written a n) s = false
 noRoom m (ask a) s = false
 noRoom m (valid w a n from) s = false
@@ -157,8 +168,24 @@ noRoom m (next a) s = false
 noRoom m audit s = false
 noRoom m (place l k) s = not (someSegment (λ i. isLooked s k i && leb (8 + l) (gapSize m s i * 8)) (heapSegments m))
 
--- the rows of the table, by their numbers; 7 "never where 8 holds"
+-- 15, S-7: "free of a stack address", whatever is read there: free. S-2: not free of address 0
+abbrev pub freesStack : Map → Call → Bool
+freesStack m clear = false
+freesStack m (begin h b l) = false
+freesStack m (free zero) = false
+freesStack m (free (suc x)) = inStack m (suc x)
+freesStack m (remove x) = false
+freesStack m (written a n) = false
+freesStack m (ask a) = false
+freesStack m (valid w a n from) = false
+freesStack m (initialised a n) = false
+freesStack m (next a) = false
+freesStack m audit = false
+freesStack m (place l k) = false
+
+-- the rows of the table, in the order in which they are given: by their numbers, but 15 "after 4 and ahead of 7 and 8", and 7, "never where 8 holds",
+-- after 8
 abbrev pub rows : Map → Call → Shadows → List Refusal
 rows m c s =
     (1, not (goodMap m)) ∷ (2, not (lengthsFit m s)) ∷ (3, isEmpty c) ∷ (4, isMisplaced m c) ∷ (5, isUnaligned m c) ∷ (6, isTaken m c s)
-    ∷ (7, blockMissed m c s && not (damageMet m c s)) ∷ (8, damageMet m c s) ∷ (13, intoLiteral m c s) ∷ (14, noRoom m c s) ∷ []
+    ∷ (15, freesStack m c) ∷ (8, damageMet m c s) ∷ (7, blockMissed m c s) ∷ (13, intoLiteral m c s) ∷ (14, noRoom m c s) ∷ []

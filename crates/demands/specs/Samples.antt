@@ -7,7 +7,7 @@ use Prim.Native.Nat.{ℕ, suc, _*_}
 use lib.Dec.{eqb}
 use Rattle.number.specs.Parts.{at}
 use Rattle.map.specs.declared.Map.{Map}
-use Rattle.plain.specs.Call.{Call, clear, record-block, record-written, free, written, ask, valid-write, initialised, next, audit, Answer, answer, refusal, done}
+use Rattle.plain.specs.Call.{Call, clear, record-block, record-written, free, remove, written, ask, valid-write, initialised, next, audit, Answer, answer, refusal, done}
 use Rattle.shadows.specs.Shadows.{Shadows, zeroShadows}
 use Rattle.monitor_base.specs.Calls.{call}
 
@@ -118,8 +118,8 @@ table =
     }
     ∷ []
 
--- ---- what follows from arguments and map, at the edges. The plain list and the shadows share one definition of 3, 4 and 5 (`byRules`), so that
--- `Demand3.WholeRun` does not decide them; `Demand1.ByTheTable` does, for every input, by a table of its own. Here are the numbers themselves, and
+-- ---- what follows from arguments and map, at the edges. The plain list and the shadows share one definition of 3, 4, 5 and 15 (`byRules`), so that
+-- `Demand3.WholeRun` does not decide them; `Demand1.ByTheTable` does, for every input, by a table of its own, and Removals.antt 15 and remove's 4. Here are the numbers themselves, and
 -- what no table of numbers says: fields, and the bytes that free of address 0 leaves
 
 unfoldable pub edges : List Sample
@@ -153,9 +153,9 @@ edges =
       primary = (0, 192 ∷ 197 ∷ 200 ∷ 204 ∷ 208 ∷ 212 ∷ 216 ∷ 220 ∷ 224 ∷ 0 ∷ []);
       secondary = (0, 9 ∷ 0 ∷ 0 ∷ 0 ∷ 0 ∷ 0 ∷ 0 ∷ 0 ∷ 0 ∷ []);
     }
-    -- position 0 of an area is not address 0: a block that begins there is freed, and without one there is none to free
+    -- position 0 of an area is not address 0: a block that begins there is removed, and without one there is none to remove or to free
     ∷ record {
-      calls = record-block 8192 9 ∷ free 8192 ∷ free 8192 ∷ free 4096 ∷ [];
+      calls = record-block 8192 9 ∷ remove 8192 ∷ remove 8192 ∷ free 4096 ∷ [];
       answers = done ∷ done ∷ refusal 7 ∷ refusal 7 ∷ [];
       heap = (0, []);
       primary = (0, zeros8 ++ (0 ∷ []));

@@ -9,7 +9,7 @@ use lib.Dec.{leb, eqb}
 use Rattle.map.specs.declared.Map.{Map}
 use Rattle.number.specs.Bits.{bit}
 use Rattle.plain.specs.Reading.{Reading, nothing, block, damaged}
-use Rattle.plain.specs.Call.{Call, clear, begin, free, written, ask, valid, initialised, next, audit, place, Answer, answer}
+use Rattle.plain.specs.Call.{Call, clear, begin, free, remove, written, ask, valid, initialised, next, audit, place, Answer, answer}
 use Rattle.shadows.specs.Shadows.{Shadows}
 use Rattle.monitor_base.specs.Calls.{call}
 use Rattle.demands.specs.Addresses.{inHeap, inStack, endOfAreas, readingAt}
@@ -109,6 +109,7 @@ abbrev pub told : Map → Call → Shadows → Answer
 told m clear s = answer 0 0 0 0 0
 told m (begin h b l) s = answer 0 0 0 0 0
 told m (free x) s = answer 0 0 0 0 0
+told m (remove x) s = answer 0 0 0 0 0
 told m (written a n) s = answer 0 0 0 0 0
 told m (ask a) s = asked (readingAt m s a)
 told m (valid true a n from) s = answer 0 (validTold n (readingAt m s a) (readingAt m s from)) 0 0 0

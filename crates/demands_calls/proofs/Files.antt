@@ -32,8 +32,8 @@ use Rattle.calls_file.specs.File.{printed}
 use Rattle.calls_origins_format.specs.Records as own-records
 use Rattle.calls_origins_format.specs.Records.{ownCall}
 use Rattle.calls_origins_format.specs.Running as origins-run
-use Rattle.demands_calls.specs.Files.{fields, plainFile, plainText, originsFile, originsText, literalFile, literalText, cellFile, cellText, FilesHold}
+use Rattle.demands_calls.specs.Files.{fields, plainFile, plainText, originsFile, originsText, literalFile, literalText, cellFile, cellText, removalFile, removalText, FilesHold}
 
 pub files-hold : FilesHold
-unfolding bytesOf byteOf word bitOf withBit ofBits ones tab zeros over goodArea apart goodMap segments total layer markRange rangeMarked readAny climb cellByte covers own heapByte heapReading agree matches marksAt heapWalk placeLength heapVacant heapStamp heapErase heapMark heapMarked shortCode pieceOf codeOf pieceByte lowBits primaryOf secondaryOf lengthFrom shortLength shortOffset primaryOwn secondaryOwn fitted badPiece longReading codeReading stackReading isClear isByte lengthAt stackWalk stackVacant stackStamp stackErase stackMark stackMarked lengthsFit setHalf zeroCells cellsFit monitor.call origins.call records.decode fieldsOf requestOf digits spaced answerFields line running.serve serveBy printed own-records.decode ownCall origins-run.serve fields plainFile plainText originsFile originsText literalFile literalText cellFile cellText
-files-hold = (refl, refl, refl, refl, refl)
+unfolding bytesOf byteOf word bitOf withBit ofBits ones tab zeros over goodArea apart goodMap segments total layer markRange rangeMarked readAny climb cellByte covers own heapByte heapReading agree matches marksAt heapWalk placeLength heapVacant heapStamp heapErase heapMark heapMarked shortCode pieceOf codeOf pieceByte lowBits primaryOf secondaryOf lengthFrom shortLength shortOffset primaryOwn secondaryOwn fitted badPiece longReading codeReading stackReading isClear isByte lengthAt stackWalk stackVacant stackStamp stackErase stackMark stackMarked lengthsFit setHalf zeroCells cellsFit monitor.call origins.call records.decode fieldsOf requestOf digits spaced answerFields line running.serve serveBy printed own-records.decode ownCall origins-run.serve fields plainFile plainText originsFile originsText literalFile literalText cellFile cellText removalFile removalText
+files-hold = (refl, refl, refl, refl, refl, refl, refl)

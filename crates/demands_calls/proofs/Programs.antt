@@ -64,13 +64,13 @@ module _ (k size : ℕ) (asks : List ℕ → records.Request) (own : isOwn k ≡
     λ n. both l none f (if-headed l f (λ x. cut-body x n)),
   )
 
-no-other : (l : List ℕ) → (kindField l ≡ 0) ⊎ ((11 ≤ kindField l) × (kindField l ≤ 13)) ⊎ (16 ≤ kindField l) → records.decode l ≡ none
+no-other : (l : List ℕ) → (kindField l ≡ 0) ⊎ ((11 ≤ kindField l) × (kindField l ≤ 13)) ⊎ (17 ≤ kindField l) → records.decode l ≡ none
 unfolding records.fieldsOf
 no-other l (inl e) = no-record l (rw e)
 no-other l (inr (inl h)) = no-record l (own-unknown (kindField l) (h .0) (h .1))
 no-other l (inr (inr h)) =
     no-record l (no-kind (kindField l) (omega arith) (omega arith) (omega arith) (omega arith) (omega arith) (omega arith) (omega arith) (omega arith)
-    (omega arith) (omega arith) (omega arith) (omega arith))
+    (omega arith) (omega arith) (omega arith) (omega arith) (omega arith))
 
 pub kinds-decode : KindsDecode
 unfolding records.fieldsOf records.requestOf
@@ -87,6 +87,7 @@ kinds-decode = (
   kind-decodes 10 12 _ refl refl (omega arith) (λ l. refl),
   kind-decodes 14 12 _ refl refl (omega arith) (λ l. refl),
   kind-decodes 15 16 _ refl refl (omega arith) (λ l. refl),
+  kind-decodes 16 8 _ refl refl (omega arith) (λ l. refl),
   no-other,
 )
 

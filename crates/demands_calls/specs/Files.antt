@@ -27,32 +27,33 @@ end = 10
 unfoldable pub plainFile : List ℕ
 plainFile =
     entry 20 1 (8 ∷ 16 ∷ 24 ∷ 16 ∷ []) ++ entry 12 2 (24 ∷ 4 ∷ []) ++ entry 12 4 (25 ∷ 1 ∷ []) ++ entry 8 5 (25 ∷ []) ++ entry 16 6 (24 ∷ 4 ∷ 24 ∷ [])
-    ++ entry 12 7 (24 ∷ 2 ∷ []) ++ entry 8 8 (8 ∷ []) ++ entry 4 9 [] ++ entry 8 3 (24 ∷ []) ++ entry 8 5 (24 ∷ []) ++ entry 12 10 (16 ∷ 8 ∷ [])
-    ++ entry 12 11 (24 ∷ 24 ∷ [])
+    ++ entry 12 7 (24 ∷ 2 ∷ []) ++ entry 8 8 (8 ∷ []) ++ entry 4 9 [] ++ entry 8 3 (0 ∷ []) ++ entry 8 16 (24 ∷ []) ++ entry 8 5 (24 ∷ []) ++ entry 12 10 (16 ∷ 8 ∷ [])
+    ++ entry 8 3 (16 ∷ []) ++ entry 8 5 (16 ∷ []) ++ entry 12 11 (24 ∷ 24 ∷ [])
 
--- 1 0; 2 0; 4 0; 5 0 24 4 1 1; 6 0 1; 7 0 0; 8 0 24 4; 9 0 0 1 4 1; 3 0; 5 7; 10 0; 9
+-- 1 0; 2 0; 4 0; 5 0 24 4 1 1; 6 0 1; 7 0 0; 8 0 24 4; 9 0 0 1 4 1; 3 0; 16 0; 5 7; 10 0; 3 0; 5 7; 9
 unfoldable pub plainText : List ℕ
 plainText =
     (49 ∷ space ∷ 48 ∷ end ∷ []) ++ (50 ∷ space ∷ 48 ∷ end ∷ []) ++ (52 ∷ space ∷ 48 ∷ end ∷ [])
     ++ (53 ∷ space ∷ 48 ∷ space ∷ 50 ∷ 52 ∷ space ∷ 52 ∷ space ∷ 49 ∷ space ∷ 49 ∷ end ∷ []) ++ (54 ∷ space ∷ 48 ∷ space ∷ 49 ∷ end ∷ [])
     ++ (55 ∷ space ∷ 48 ∷ space ∷ 48 ∷ end ∷ []) ++ (56 ∷ space ∷ 48 ∷ space ∷ 50 ∷ 52 ∷ space ∷ 52 ∷ end ∷ [])
-    ++ (57 ∷ space ∷ 48 ∷ space ∷ 48 ∷ space ∷ 49 ∷ space ∷ 52 ∷ space ∷ 49 ∷ end ∷ []) ++ (51 ∷ space ∷ 48 ∷ end ∷ []) ++ (53 ∷ space ∷ 55 ∷ end ∷ [])
-    ++ (49 ∷ 48 ∷ space ∷ 48 ∷ end ∷ []) ++ (57 ∷ end ∷ [])
+    ++ (57 ∷ space ∷ 48 ∷ space ∷ 48 ∷ space ∷ 49 ∷ space ∷ 52 ∷ space ∷ 49 ∷ end ∷ []) ++ (51 ∷ space ∷ 48 ∷ end ∷ [])
+    ++ (49 ∷ 54 ∷ space ∷ 48 ∷ end ∷ []) ++ (53 ∷ space ∷ 55 ∷ end ∷ [])
+    ++ (49 ∷ 48 ∷ space ∷ 48 ∷ end ∷ []) ++ (51 ∷ space ∷ 48 ∷ end ∷ []) ++ (53 ∷ space ∷ 55 ∷ end ∷ []) ++ (57 ∷ end ∷ [])
 
 -- a block of 8 bytes at 24 with two cells, and one of 4 at 32, to which the pointer at 24 is set; a copy; then that block goes. The record of a
 -- length that is not its kind's, all of which is there, ends the run
 unfoldable pub originsFile : List ℕ
 originsFile =
     entry 20 1 (8 ∷ 16 ∷ 24 ∷ 16 ∷ []) ++ entry 12 2 (24 ∷ 8 ∷ []) ++ entry 12 2 (32 ∷ 4 ∷ []) ++ entry 12 11 (24 ∷ 33 ∷ []) ++ entry 12 12 (28 ∷ 24 ∷ [])
-    ++ entry 12 13 (28 ∷ 35 ∷ []) ++ entry 12 13 (28 ∷ 36 ∷ []) ++ entry 12 13 (26 ∷ 32 ∷ []) ++ entry 8 3 (32 ∷ []) ++ entry 12 10 (32 ∷ 4 ∷ [])
+    ++ entry 12 13 (28 ∷ 35 ∷ []) ++ entry 12 13 (28 ∷ 36 ∷ []) ++ entry 12 13 (26 ∷ 32 ∷ []) ++ entry 8 16 (32 ∷ []) ++ entry 12 10 (32 ∷ 4 ∷ [])
     ++ entry 12 13 (24 ∷ 32 ∷ []) ++ entry 8 5 (32 ∷ []) ++ entry 16 13 (24 ∷ 32 ∷ 0 ∷ [])
 
--- 1 0; 2 0; 2 0; 11 0; 12 0; 13 0 1; 13 0 0; 13 11; 3 0; 10 0; 13 0 0; 5 0 32 4 0 1; 9
+-- 1 0; 2 0; 2 0; 11 0; 12 0; 13 0 1; 13 0 0; 13 11; 16 0; 10 0; 13 0 0; 5 0 32 4 0 1; 9
 unfoldable pub originsText : List ℕ
 originsText =
     (49 ∷ space ∷ 48 ∷ end ∷ []) ++ (50 ∷ space ∷ 48 ∷ end ∷ []) ++ (50 ∷ space ∷ 48 ∷ end ∷ []) ++ (49 ∷ 49 ∷ space ∷ 48 ∷ end ∷ [])
     ++ (49 ∷ 50 ∷ space ∷ 48 ∷ end ∷ []) ++ (49 ∷ 51 ∷ space ∷ 48 ∷ space ∷ 49 ∷ end ∷ []) ++ (49 ∷ 51 ∷ space ∷ 48 ∷ space ∷ 48 ∷ end ∷ [])
-    ++ (49 ∷ 51 ∷ space ∷ 49 ∷ 49 ∷ end ∷ []) ++ (51 ∷ space ∷ 48 ∷ end ∷ []) ++ (49 ∷ 48 ∷ space ∷ 48 ∷ end ∷ [])
+    ++ (49 ∷ 51 ∷ space ∷ 49 ∷ 49 ∷ end ∷ []) ++ (49 ∷ 54 ∷ space ∷ 48 ∷ end ∷ []) ++ (49 ∷ 48 ∷ space ∷ 48 ∷ end ∷ [])
     ++ (49 ∷ 51 ∷ space ∷ 48 ∷ space ∷ 48 ∷ end ∷ []) ++ (53 ∷ space ∷ 48 ∷ space ∷ 51 ∷ 50 ∷ space ∷ 52 ∷ space ∷ 48 ∷ space ∷ 49 ∷ end ∷ [])
     ++ (57 ∷ end ∷ [])
 
@@ -108,6 +109,34 @@ cellText =
     ++ (49 ∷ 51 ∷ space ∷ 48 ∷ space ∷ 49 ∷ end ∷ [])
     ++ (57 ∷ space ∷ 48 ∷ space ∷ 48 ∷ space ∷ 49 ∷ space ∷ 52 ∷ space ∷ 52 ∷ end ∷ [])
 
+-- free and remove in both areas: the same in both programs
+unfoldable pub removalFile : List ℕ
+removalFile =
+    entry 20 1 (4096 ∷ 64 ∷ 8192 ∷ 32 ∷ [])
+    ++ entry 8 3 (8192 ∷ [])
+    ++ entry 8 3 (0 ∷ [])
+    ++ entry 8 3 (4104 ∷ [])
+    ++ entry 8 16 (0 ∷ [])
+    ++ entry 8 16 (4104 ∷ [])
+    ++ entry 8 16 (8192 ∷ [])
+    ++ entry 12 2 (8192 ∷ 2 ∷ [])
+    ++ entry 8 16 (8193 ∷ [])
+    ++ entry 8 16 (8192 ∷ [])
+
+-- 1 0; 3 15; 3 0; 3 7; 16 4; 16 4; 16 7; 2 0; 16 7; 16 0
+unfoldable pub removalText : List ℕ
+removalText =
+    (49 ∷ space ∷ 48 ∷ end ∷ [])
+    ++ (51 ∷ space ∷ 49 ∷ 53 ∷ end ∷ [])
+    ++ (51 ∷ space ∷ 48 ∷ end ∷ [])
+    ++ (51 ∷ space ∷ 55 ∷ end ∷ [])
+    ++ (49 ∷ 54 ∷ space ∷ 52 ∷ end ∷ [])
+    ++ (49 ∷ 54 ∷ space ∷ 52 ∷ end ∷ [])
+    ++ (49 ∷ 54 ∷ space ∷ 55 ∷ end ∷ [])
+    ++ (50 ∷ space ∷ 48 ∷ end ∷ [])
+    ++ (49 ∷ 54 ∷ space ∷ 55 ∷ end ∷ [])
+    ++ (49 ∷ 54 ∷ space ∷ 48 ∷ end ∷ [])
+
 abbrev pub FilesHold : Type 0
 FilesHold =
     (printedFile plainProgram plainFile ≡ plainText)
@@ -115,3 +144,5 @@ FilesHold =
     × (printedFile plainProgram literalFile ≡ literalText)
     × (printedFile originsProgram literalFile ≡ literalText)
     × (printedFile originsProgram cellFile ≡ cellText)
+    × (printedFile plainProgram removalFile ≡ removalText)
+    × (printedFile originsProgram removalFile ≡ removalText)

@@ -8,7 +8,7 @@ use Prim.Native.Nat.{ℕ, _≤_, _<_}
 use lib.ListN.{length}
 use Rattle.map.specs.declared.Map.{Map}
 use Rattle.plain.specs.Call as base
-use Rattle.plain.specs.Call.{record-block, record-written, record-literal, free, written, ask, valid-write, valid-read, initialised, next, audit, done, refusal}
+use Rattle.plain.specs.Call.{record-block, record-written, record-literal, free, remove, written, ask, valid-write, valid-read, initialised, next, audit, done, refusal}
 use Rattle.shadows.specs.Shadows.{Shadows, zeroShadows}
 use Rattle.monitor_base.specs.Calls as monitor
 use Rattle.origins_list.specs.Call as form
@@ -44,7 +44,7 @@ Decodes k size asks =
     × (length l < size → (records.decode l ≡ none) × (with-origins.decode l ≡ none))
 
 -- "Kinds: 1 map (20 bytes long), 2 record (12), 3 free (8)" and so on to 9; S-1: kind 10 (base, length); S-5: kind 14 (base, length) and kind 15
--- (address, n, from). Each has its fields in their order, and the plain program knows no other kind
+-- (address, n, from); S-7: kind 16 (base). Each has its fields in their order, and the plain program knows no other kind
 abbrev pub KindsDecode : Type 0
 KindsDecode =
     Decodes 1 20 (λ l. newMap (record { «heap_start» = field l 0; «heap_size» = field l 1; «stack_start» = field l 2; «stack_size» = field l 3 }))
@@ -59,7 +59,8 @@ KindsDecode =
     × Decodes 10 12 (λ l. call (record-written (field l 0) (field l 1)))
     × Decodes 14 12 (λ l. call (record-literal (field l 0) (field l 1)))
     × Decodes 15 16 (λ l. call (valid-read (field l 0) (field l 1) (field l 2)))
-    × ((l : List ℕ) → (kindField l ≡ 0) ⊎ ((11 ≤ kindField l) × (kindField l ≤ 13)) ⊎ (16 ≤ kindField l) → records.decode l ≡ none)
+    × Decodes 16 8 (λ l. call (remove (field l 0)))
+    × ((l : List ℕ) → (kindField l ≡ 0) ⊎ ((11 ≤ kindField l) × (kindField l ≤ 13)) ⊎ (17 ≤ kindField l) → records.decode l ≡ none)
 
 -- "which takes the plain kinds too": a record of any other kind than 11 to 13 decodes as in the plain program, or does not, as there
 abbrev pub OthersAsPlain : Type 0

@@ -13,25 +13,25 @@ use Rattle.map.specs.Map.{goodMap}
 use Rattle.map.proofs.MapLaws.{Good, good-true}
 use Rattle.plain.specs.Areas.{mapRules}
 use Rattle.plain.specs.Join.{writeOne}
+use Rattle.plain.specs.Ops.{readAny}
 use Rattle.plain.specs.Reading.{Reading, nothing, block, damaged}
 use Rattle.plain.specs.declared.Beginning.{Beginning}
 use Rattle.plain.specs.declared.Beginning.the-variants.{Unwritten, Written, Literal}
-use Rattle.plain.specs.Call.{clear, begin, free, written, ask, valid, initialised, next, audit, place, Answer, yesNo, firstOf, unless}
+use Rattle.plain.specs.Call.{clear, begin, free, remove, written, ask, valid, initialised, next, audit, place, Answer, yesNo, firstOf, unless}
 use Rattle.plain.specs.ShadowCalls.{isDamaged, isFirst, lengthOf}
 use Rattle.shadows.specs.Shadows.{lengthsFit, shadowOps}
 use Rattle.demands.specs.Addresses.{inHeap, outside, readingAt}
 use Rattle.demands.specs.Numbers.{isMisplaced, isUnaligned}
 use Rattle.demands.proofs.Numbers.{reading-words}
 use Rattle.demands.proofs.Readings.{blocks-read}
-use Rattle.demands.proofs.RowLaws.{not-missed}
 use Rattle.origins_list.specs.Call.{Call, plain, point, copy, live}
-use Rattle.origins_list.specs.StateCalls.{stateAfter, stateAnswer}
+use Rattle.origins_list.specs.StateCalls.{cellsAfter, stateAfter, stateAnswer}
 use Rattle.cells_layout.specs.Area.{setHalf, zeroCells}
 use Rattle.cells_layout.specs.Cells.{Cells, cellOps}
 use Rattle.origins_base.specs.Calls.{State, refusals, call}
 use Rattle.demands_origins.specs.Numbers.{lengthsDiffer, offCell, badCell, fourInOne}
 use Rattle.demands_origins.specs.Demand1.{numberOf}
-use Rattle.demands_origins.specs.Alters.{referentIn, originOfBlock, byteAt, cellsLeft, isRecording, leavesCells, RecordStores, FreeZeroesCells, ClearZeroesCells, CounterLeft, CellsLeft, ShadowsLeft, CellLengthsKept, PointRefers, CopyRefers, LiveTold}
+use Rattle.demands_origins.specs.Alters.{referentIn, originOfBlock, byteAt, cellsLeft, isRecording, leavesCells, RecordStores, ZeroesCells, FreeZeroesCells, RemoveZeroesCells, ClearZeroesCells, CounterLeft, CellsLeft, ShadowsLeft, CellLengthsKept, PointRefers, CopyRefers, LiveTold}
 use Rattle.demands_origins.proofs.Numbers.{number-first}
 use Rattle.demands_origins.proofs.Demand1.{accepted-exactly}
 use Rattle.demands_origins.proofs.CellLaws.{CellsLong, Lies, referent-words, block-words, origin-set, referent-set, zeroed-in, zeroed-out}
@@ -86,41 +86,47 @@ record-stores m h b l x e =
       rw (accepted m (plain (begin h b l)) x e),
     )
 
--- ---- free
+-- ---- free and remove
 
--- the block that is freed lies in its area
-module _ (m : Map) (b : ℕ) (x : State) (e : numberOf m (plain (free (suc b))) x ≡ 0) where
-  first : isFirst (readingAt m (x .shadows) (suc b)) ≡ true
-  first =
-      let h = accepted-exactly m (plain (free (suc b))) x .1 e in
-      not-missed (isFirst (readingAt m (x .shadows) (suc b))) (isDamaged (readingAt m (x .shadows) (suc b))) (h .1 .1 .1 .1 .1 .1 .0)
-      (h .1 .1 .1 .1 .1 .1 .1 .0)
+-- a block that is read at its base lies in its area
+base-lies : (m : Map) (b : ℕ) (x : State) → isFirst (readingAt m (x .shadows) b) ≡ true → Lies m b (lengthOf (readingAt m (x .shadows) b))
+base-lies m b x = go (readingAt m (x .shadows) b) refl
+  where
+    go : (r : Reading) → readingAt m (x .shadows) b ≡ r → isFirst r ≡ true → Lies m b (lengthOf r)
+    go nothing q f = absurd (false≢true f)
+    go (block c l o w k) q f =
+        let t = blocks-read m (x .shadows) b c l o w k q in
+        let z : o ≡ 0 = eqb-true o 0 f in
+        record {
+          some = omega (arith, t .1);
+          heap = λ i. let u = t .4 i in (omega (arith, t .0), omega (arith, t .0));
+          stack = λ i. let u = t .5 i in (omega (arith, t .0), omega (arith, t .0));
+        }
+    go damaged q f = absurd (false≢true f)
 
-  lies : Lies m (suc b) (lengthOf (readingAt m (x .shadows) (suc b)))
-  lies = go (readingAt m (x .shadows) (suc b)) refl first
-    where
-      go : (r : Reading) → readingAt m (x .shadows) (suc b) ≡ r → isFirst r ≡ true → Lies m (suc b) (lengthOf r)
-      go nothing q f = absurd (false≢true f)
-      go (block c l o w k) q f =
-          let t = blocks-read m (x .shadows) (suc b) c l o w k q in
-          let z : o ≡ 0 = eqb-true o 0 f in
-          record {
-            some = omega (arith, t .1);
-            heap = λ i. let u = t .4 i in (omega (arith, t .0), omega (arith, t .0));
-            stack = λ i. let u = t .5 i in (omega (arith, t .0), omega (arith, t .0));
-          }
-      go damaged q f = absurd (false≢true f)
+-- what an accepted call that ends the block of a base leaves
+zeroes-cells : (m : Map) (c : Call) (b : ℕ) (x : State) → numberOf m c x ≡ 0
+    → cellsAfter (mapRules m) (shadowOps m) (cellOps m) c x ≡ cellOps m .zeroed (x .cells) b (lengthOf (readAny (mapRules m) (shadowOps m) (x .shadows) b))
+    → isFirst (readingAt m (x .shadows) b) ≡ true → ZeroesCells m c b x
+zeroes-cells m c b x e ends f =
+    let g = checked m c x e .good in
+    let o = base-lies m b x f in
+    let l : ℕ = lengthOf (readingAt m (x .shadows) b) in
+    let w : cellsLeft m c x ≡ cellOps m .zeroed (x .cells) b l =
+    now m c x e ∙ ends ∙ ap (λ (r : Reading). cellOps m .zeroed (x .cells) b (lengthOf r)) (reading-words m (x .shadows) b) in (
+      λ a i u v k q t. ap (λ y. byteAt y q) w ∙ zeroed-in m g (x .cells) b l o a i u v k q t,
+      λ q n. ap (λ y. byteAt y q) w ∙ zeroed-out m g (x .cells) b l o q n,
+    )
 
 pub free-zeroes-cells : FreeZeroesCells
 free-zeroes-cells m b x e =
-    let g = checked m (plain (free (suc b))) x e .good in
-    let o = lies m b x e in
-    let l : ℕ = lengthOf (readingAt m (x .shadows) (suc b)) in
-    let w : cellsLeft m (plain (free (suc b))) x ≡ cellOps m .zeroed (x .cells) (suc b) l =
-    now m (plain (free (suc b))) x e ∙ rw (reading-words m (x .shadows) (suc b)) in (
-      λ a i u v k q t. ap (λ y. byteAt y q) w ∙ zeroed-in m g (x .cells) (suc b) l o a i u v k q t,
-      λ q n. ap (λ y. byteAt y q) w ∙ zeroed-out m g (x .cells) (suc b) l o q n,
-    )
+    let h = accepted-exactly m (plain (free (suc b))) x .1 e in
+    zeroes-cells m (plain (free (suc b))) (suc b) x e refl (not-false (isFirst (readingAt m (x .shadows) (suc b))) (h .1 .1 .1 .1 .1 .1 .1 .1 .0))
+
+pub remove-zeroes-cells : RemoveZeroesCells
+remove-zeroes-cells m b x e =
+    let h = accepted-exactly m (plain (remove b)) x .1 e in
+    zeroes-cells m (plain (remove b)) b x e refl (not-false (isFirst (readingAt m (x .shadows) b)) (h .1 .1 .1 .1 .1 .1 .1 .1 .0))
 
 -- ---- clear
 
@@ -146,6 +152,7 @@ counter-left m c x n = stays (λ (y : State). y .counter) m c x (go c n)
     go (plain (begin h b l)) n = absurd (true≢false n)
     go (plain (free zero)) n = refl
     go (plain (free (suc b))) n = refl
+    go (plain (remove b)) n = refl
     go (plain (written a k)) n = refl
     go (plain (ask a)) n = refl
     go (plain (valid w a k from)) n = refl
@@ -165,6 +172,7 @@ cells-left m c x n = stays (λ (y : State). y .cells) m c x (go c n)
     go (plain (begin h b l)) n = absurd (false≢true n)
     go (plain (free zero)) n = refl
     go (plain (free (suc b))) n = absurd (false≢true n)
+    go (plain (remove b)) n = absurd (false≢true n)
     go (plain (written a k)) n = refl
     go (plain (ask a)) n = refl
     go (plain (valid w a k from)) n = refl
@@ -211,6 +219,7 @@ module _ (m : Map) where
   after-long (plain (begin h b l)) x f = set-long (x .cells) b _ _ (x .counter)
   after-long (plain (free zero)) x f = (refl, refl)
   after-long (plain (free (suc b))) x f = zeroed-long (x .cells) (suc b) _
+  after-long (plain (remove b)) x f = zeroed-long (x .cells) b _
   after-long (plain (written a n)) x f = (refl, refl)
   after-long (plain (ask a)) x f = (refl, refl)
   after-long (plain (valid w a n from)) x f = (refl, refl)
@@ -236,7 +245,7 @@ pub point-refers : PointRefers
 point-refers m c a x e =
     let K = checked m (point c a) x e in
     let h = accepted-exactly m (point c a) x .1 e in
-    let d = cell-aligned m x c (h .1 .1 .1 .1 .1 .1 .1 .1 .0) in
+    let d = cell-aligned m x c (h .1 .1 .1 .1 .1 .1 .1 .1 .1 .0) in
     let r : ℕ = originOfBlock m (x .cells) (readingAt m (x .shadows) a) in
     let w : cellsLeft m (point c a) x ≡ cellOps m .setReferent (x .cells) c r =
     now m (point c a) x e ∙ rw (reading-words m (x .shadows) a, block-words m (K .good) (x .cells) (readingAt m (x .shadows) a)) in (
@@ -249,7 +258,7 @@ copy-refers m t f x e =
     let K = checked m (copy t f) x e in
     let h = accepted-exactly m (copy t f) x .1 e in
     let o = or-false (outside m t) (outside m f) (h .1 .1 .1 .0) in
-    let b = or-false (badCell m x t) (badCell m x f) (h .1 .1 .1 .1 .1 .1 .1 .1 .0) in
+    let b = or-false (badCell m x t) (badCell m x f) (h .1 .1 .1 .1 .1 .1 .1 .1 .1 .0) in
     let r : ℕ = referentIn m (x .cells) f in
     let w : cellsLeft m (copy t f) x ≡ cellOps m .setReferent (x .cells) t r =
     now m (copy t f) x e ∙ rw (referent-words m (K .good) (x .cells) f (cell-aligned m x f (b .1))) in (
@@ -261,7 +270,7 @@ pub live-told : LiveTold
 live-told m c a x e =
     let K = checked m (live c a) x e in
     let h = accepted-exactly m (live c a) x .1 e in
-    let d = cell-aligned m x c (h .1 .1 .1 .1 .1 .1 .1 .1 .0) in
+    let d = cell-aligned m x c (h .1 .1 .1 .1 .1 .1 .1 .1 .1 .0) in
     let r : ℕ = referentIn m (x .cells) c in
     let o : ℕ = originOfBlock m (x .cells) (readingAt m (x .shadows) a) in
     let w : (call m (live c a) x) .1 ≡ yesNo (not (eqb r 0) && eqb o r) =

@@ -32,7 +32,7 @@ by-the-table = by-rows
 
 ascending : (m : Map) (c : Call) (x : State) → Ascending 0 (rows m c x)
 ascending m c x =
-    (omega arith, (omega arith, (omega arith, (omega arith, (omega arith, (omega arith, (omega arith, (omega arith, (omega arith, (omega arith, (omega arith, (omega arith, tt))))))))))))
+    (omega arith, (omega arith, (omega arith, (omega arith, (omega arith, (omega arith, (omega arith, (omega arith, (omega arith, (omega arith, (omega arith, (omega arith, (omega arith, tt)))))))))))))
 
 pub accepted-exactly : AcceptedExactly
 accepted-exactly m c x = (

@@ -6,9 +6,10 @@ use Prim.Native.Nat.{ℕ, zero, suc, _*_, _%_}
 use lib.ListN.{length}
 use lib.Dec.{eqb}
 use Rattle.map.specs.declared.Map.{Map}
+use Rattle.map.specs.Map.{goodMap}
 use Rattle.plain.specs.Areas.{mapRules}
 use Rattle.plain.specs.Reading.{Reading, nothing, block, damaged}
-use Rattle.plain.specs.Call.{clear, begin, free, written, ask, valid, initialised, next, audit, place, number, firstOf}
+use Rattle.plain.specs.Call.{clear, begin, free, remove, written, ask, valid, initialised, next, audit, place, number, firstOf}
 use Rattle.plain.specs.ShadowCalls.{inOne}
 use Rattle.plain.proofs.RunLaws.{unless-number}
 use Rattle.shadows.specs.Shadows.{lengthsFit, shadowOps}
@@ -59,24 +60,25 @@ pub either-of : (n : ℕ) (p q : Bool) (k : ℕ) → cond p n (cond q n k) ≡ c
 either-of n true q k = refl
 either-of n false q k = refl
 
-pub later-rows : (m : Map) (c : Call) (x : State) → firstOf (byState (mapRules m) (shadowOps m) (cellOps m) c x) ≡ firstOf (pastTwo (rows m c x))
-later-rows m (plain clear) x = refl
-later-rows m (plain (begin h b l)) x =
+pub later-rows : (m : Map) → goodMap m ≡ true → (c : Call) (x : State) → firstOf (byState (mapRules m) (shadowOps m) (cellOps m) c x) ≡ firstOf (pastTwo (rows m c x))
+later-rows m ok (plain clear) x = refl
+later-rows m ok (plain (begin h b l)) x =
     rw (misplaced-words m h b l, unaligned-words m b, taken-words m (x .shadows) b l, either-of 5 _ (offCell (begin h b l)) _)
-later-rows m (plain (free zero)) x = refl
-later-rows m (plain (free (suc b))) x = base.later-rows m (free (suc b)) (x .shadows)
-later-rows m (plain (written a n)) x = base.later-rows m (written a n) (x .shadows)
-later-rows m (plain (ask a)) x = base.later-rows m (ask a) (x .shadows)
-later-rows m (plain (valid w a n from)) x = base.later-rows m (valid w a n from) (x .shadows)
-later-rows m (plain (initialised a n)) x = base.later-rows m (initialised a n) (x .shadows)
-later-rows m (plain (next a)) x = base.later-rows m (next a) (x .shadows)
-later-rows m (plain audit) x = refl
-later-rows m (plain (place l k)) x = base.later-rows m (place l k) (x .shadows)
-later-rows m (point c a) x =
+later-rows m ok (plain (free zero)) x = refl
+later-rows m ok (plain (free (suc b))) x = base.later-rows m ok (free (suc b)) (x .shadows)
+later-rows m ok (plain (remove b)) x = base.later-rows m ok (remove b) (x .shadows)
+later-rows m ok (plain (written a n)) x = base.later-rows m ok (written a n) (x .shadows)
+later-rows m ok (plain (ask a)) x = base.later-rows m ok (ask a) (x .shadows)
+later-rows m ok (plain (valid w a n from)) x = base.later-rows m ok (valid w a n from) (x .shadows)
+later-rows m ok (plain (initialised a n)) x = base.later-rows m ok (initialised a n) (x .shadows)
+later-rows m ok (plain (next a)) x = base.later-rows m ok (next a) (x .shadows)
+later-rows m ok (plain audit) x = refl
+later-rows m ok (plain (place l k)) x = base.later-rows m ok (place l k) (x .shadows)
+later-rows m ok (point c a) x =
     rw (pointer-words m x c, outside-words m c, reading-words m (x .shadows) c, reading-words m (x .shadows) a)
-later-rows m (copy t f) x =
+later-rows m ok (copy t f) x =
     rw (pointer-words m x t, pointer-words m x f, outside-words m t, outside-words m f, reading-words m (x .shadows) t, reading-words m (x .shadows) f)
-later-rows m (live c a) x =
+later-rows m ok (live c a) x =
     rw (pointer-words m x c, outside-words m c, reading-words m (x .shadows) c, reading-words m (x .shadows) a)
 
 -- 2 of the shadows and of the cells are one row
@@ -88,10 +90,11 @@ lengths-row false p q k = refl
 same-rows : (m : Map) (c : Call) (x : State) → firstOf (refusals m c x) ≡ firstOf (rows m c x)
 unfolding cellsFit
 same-rows m c x =
-    rw (
-      later-rows m c x,
+    base.by-goodness (goodMap m) _ _
+    (λ ok. rw (
+      later-rows m ok c x,
       lengths-row (lengthsFit m (x .shadows)) (eqb (length (x .cells .0)) (2 * m .«heap_size»)) (eqb (length (x .cells .1)) (2 * m .«stack_size»)) _,
-    )
+    ))
 
 pub by-rows : (m : Map) (c : Call) (x : State) → numberOf m c x ≡ firstOf (rows m c x)
 by-rows m c x = number-first m c x ∙ same-rows m c x

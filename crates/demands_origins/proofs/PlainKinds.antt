@@ -12,7 +12,7 @@ use Rattle.map.specs.declared.Map.{Map}
 use Rattle.map.specs.Map.{goodMap}
 use Rattle.plain.specs.Areas.{mapRules}
 use Rattle.plain.specs.Call as base
-use Rattle.plain.specs.Call.{clear, begin, free, written, ask, valid, initialised, next, audit, place, Answer, Refusal, firstOf, unless, allows, byRules}
+use Rattle.plain.specs.Call.{clear, begin, free, remove, written, ask, valid, initialised, next, audit, place, Answer, Refusal, firstOf, unless, allows, byRules}
 use Rattle.plain.specs.ShadowCalls.{byShadows, shadowAnswer}
 use Rattle.shadows.specs.Shadows.{lengthsFit, shadowOps}
 use Rattle.monitor_base.specs.Calls as monitor
@@ -74,6 +74,7 @@ module _ (m : Map) (x : State) where
       (not (shadowOps m .vacant (x .shadows) b l)) (outOfRange (begin h b l) (x .counter))
   rest (free zero) = other (later (free zero))
   rest (free (suc b)) = other (later (free (suc b)))
+  rest (remove b) = other (later (remove b))
   rest (written a n) = other (later (written a n))
   rest (ask a) = other (later (ask a))
   rest (valid w a n from) = other (later (valid w a n from))
@@ -97,8 +98,8 @@ module _ (m : Map) (x : State) where
             g,
             l,
             f,
-            before.later-rows m c (x .shadows),
-            neither (pastTwo (rows m c (x .shadows))) (omega arith, (omega arith, (omega arith, (omega arith, (omega arith, (omega arith, (omega arith, (omega arith, tt)))))))),
+            before.later-rows m g c (x .shadows),
+            neither (pastTwo (rows m c (x .shadows))) (omega arith, (omega arith, (omega arith, (omega arith, (omega arith, (omega arith, (omega arith, (omega arith, (omega arith, tt))))))))),
           )
       go (is-true g) (is-true l) (is-true f) = rw (g, l, f) (rest c)
 

@@ -10,7 +10,7 @@ use Rattle.number.specs.Parts.{at, inPart}
 use Rattle.map.specs.declared.Map.{Map}
 use Rattle.plain.specs.declared.Beginning.{Beginning}
 use Rattle.plain.specs.Reading.{Reading, nothing, block, damaged}
-use Rattle.plain.specs.Call.{clear, begin, free, written, ask, valid, initialised, next, audit, place, answer}
+use Rattle.plain.specs.Call.{clear, begin, free, remove, written, ask, valid, initialised, next, audit, place, answer}
 use Rattle.plain.specs.ShadowCalls.{lengthOf}
 use Rattle.demands.specs.Addresses.{inHeap, readingAt}
 use Rattle.origins_list.specs.Call.{Call, plain, point, copy, live}
@@ -70,15 +70,23 @@ RecordStores =
     ≡ cond (inCell m b 0 4 q) (byteOf (x .counter) (nth m b 0 q)) (byteAt (x .cells) q))
     × ((call m (plain (begin h b l)) x) .0 .counter ≡ suc (x .counter))
 
--- "Freeing zeroes each cell that touches the block": both halves of each cell that has one of the block's addresses, and no other byte
+-- both halves of each cell that has one of the addresses of the block that is read at b are zero after a call, and no other byte is altered
+abbrev pub ZeroesCells : Map → Call → (b : ℕ) → State → Type 0
+ZeroesCells m c b x =
+    ((a i : ℕ) → b ≤ a → a < b + lengthOf (readingAt m (x .shadows) b) → i < 8 → (q : Place) → inCell m (cellStart a) i 1 q ≡ true
+    → byteAt (cellsLeft m c x) q ≡ 0)
+    × ((q : Place)
+    → ((a i : ℕ) → b ≤ a → a < b + lengthOf (readingAt m (x .shadows) b) → i < 8 → inCell m (cellStart a) i 1 q ≡ false)
+    → byteAt (cellsLeft m c x) q ≡ byteAt (x .cells) q)
+
+-- "Freeing zeroes each cell that touches the block"
 abbrev pub FreeZeroesCells : Type 0
 FreeZeroesCells =
-    (m : Map) (b : ℕ) (x : State) → numberOf m (plain (free (suc b))) x ≡ 0
-    → ((a i : ℕ) → suc b ≤ a → a < suc b + lengthOf (readingAt m (x .shadows) (suc b)) → i < 8 → (q : Place) → inCell m (cellStart a) i 1 q ≡ true
-    → byteAt (cellsLeft m (plain (free (suc b))) x) q ≡ 0)
-    × ((q : Place)
-    → ((a i : ℕ) → suc b ≤ a → a < suc b + lengthOf (readingAt m (x .shadows) (suc b)) → i < 8 → inCell m (cellStart a) i 1 q ≡ false)
-    → byteAt (cellsLeft m (plain (free (suc b))) x) q ≡ byteAt (x .cells) q)
+    (m : Map) (b : ℕ) (x : State) → numberOf m (plain (free (suc b))) x ≡ 0 → ZeroesCells m (plain (free (suc b))) (suc b) x
+
+-- S-7: "removes a stack block as free used to"
+abbrev pub RemoveZeroesCells : Type 0
+RemoveZeroesCells = (m : Map) (b : ℕ) (x : State) → numberOf m (plain (remove b)) x ≡ 0 → ZeroesCells m (plain (remove b)) b x
 
 -- "clear zeroes all cells"
 abbrev pub ClearZeroesCells : Type 0
@@ -100,6 +108,7 @@ leavesCells (plain clear) = false
 leavesCells (plain (begin h b l)) = false
 leavesCells (plain (free zero)) = true
 leavesCells (plain (free (suc x))) = false
+leavesCells (plain (remove x)) = false
 leavesCells (plain (written a n)) = true
 leavesCells (plain (ask a)) = true
 leavesCells (plain (valid w a n from)) = true

@@ -1,5 +1,5 @@
 -- Demand 1 for the form with origins, of every call on every input, any map, any lengths, any bytes, any counter: accepted exactly if no row of the
--- table holds, else refused by the lowest number whose row holds, with zero fields, and no byte of shadows or cells and no counter altered. Each
+-- table holds, else refused by the first number, in their order (`turn`), whose row holds, with zero fields, and no byte of shadows or cells and no counter altered. Each
 -- statement is proved in proofs/Demand1.antt. That the code does what `call` says is the contract of each function of `origins`. Assumes nothing.
 use mathlib.Core.Path.{_≡_}
 use mathlib.Core.Logic.{_≢_}
@@ -8,7 +8,7 @@ use Prim.Native.Nat.{ℕ, _≤_}
 use Rattle.number.specs.Parts.{Each}
 use Rattle.map.specs.declared.Map.{Map}
 use Rattle.plain.specs.Call.{answer, number, Refusal, firstOf}
-use Rattle.demands.specs.Demand1.{NoneHolds, SomeRow}
+use Rattle.demands.specs.Demand1.{NoneHolds, turn, SomeRow}
 use Rattle.origins_list.specs.Call.{Call}
 use Rattle.origins_base.specs.Calls.{State, call}
 use Rattle.demands_origins.specs.Numbers.{rows}
@@ -29,9 +29,9 @@ ByTheTable = (m : Map) (c : Call) (x : State) → numberOf m c x ≡ firstOf (ro
 abbrev pub AcceptedExactly : Type 0
 AcceptedExactly = (m : Map) (c : Call) (x : State) → (NoneHolds (rows m c x) → numberOf m c x ≡ 0) × (numberOf m c x ≡ 0 → NoneHolds (rows m c x))
 
--- the lowest number wins: of every row that holds, the number is at most that row's (row 7 holds only where 8 does not)
+-- the lowest number wins, but 8 before 7, and 15 before both: of every row that holds, the number's turn is at most that row's
 abbrev pub LowestWins : Type 0
-LowestWins = (m : Map) (c : Call) (x : State) → Each (λ (r : Refusal). r .1 ≡ true → numberOf m c x ≤ r .0) (rows m c x)
+LowestWins = (m : Map) (c : Call) (x : State) → Each (λ (r : Refusal). r .1 ≡ true → turn (numberOf m c x) ≤ turn (r .0)) (rows m c x)
 
 -- a number other than 0 is that of a row that holds
 abbrev pub ItsRowHolds : Type 0

@@ -11,11 +11,11 @@ use Rattle.map.specs.declared.Map.{Map}
 use Rattle.map.specs.Map.{goodMap}
 use Rattle.plain.specs.Reading.{Reading, nothing, block, damaged}
 use Rattle.plain.specs.Call as base
-use Rattle.plain.specs.Call.{clear, begin, free, written, ask, valid, initialised, next, audit, place, Refusal}
+use Rattle.plain.specs.Call.{clear, begin, free, remove, written, ask, valid, initialised, next, audit, place, Refusal}
 use Rattle.plain.specs.ShadowCalls.{isDamaged}
 use Rattle.shadows.specs.Shadows.{lengthsFit}
 use Rattle.demands.specs.Addresses.{outside, readingAt}
-use Rattle.demands.specs.Numbers.{isEmpty, isMisplaced, isUnaligned, isTaken, blockMissed, damageMet, intoLiteral, noRoom}
+use Rattle.demands.specs.Numbers.{isEmpty, isMisplaced, isUnaligned, isTaken, blockMissed, damageMet, intoLiteral, noRoom, freesStack}
 use Rattle.origins_list.specs.Call.{Call, plain, point, copy, live}
 use Rattle.origins_base.specs.Calls.{State}
 
@@ -43,6 +43,7 @@ abbrev pub recorded : base.Call → Option ℕ
 recorded (begin h b l) = some b
 recorded clear = none
 recorded (free x) = none
+recorded (remove x) = none
 recorded (written a n) = none
 recorded (ask a) = none
 recorded (valid w a n from) = none
@@ -134,9 +135,17 @@ noPlace m (point c a) x = false
 noPlace m (copy t f) x = false
 noPlace m (live c a) x = false
 
--- the rows of the table, by their numbers; 7 "never where 8 holds"
+-- 15, S-7: "free of a stack address"
+abbrev pub stackFreed : Map → Call → Bool
+stackFreed m (plain c) = freesStack m c
+stackFreed m (point c a) = false
+stackFreed m (copy t f) = false
+stackFreed m (live c a) = false
+
+-- the rows of the table, in the order in which they are given: by their numbers, but 15 "after 4 and ahead of 7 and 8", and 7, "never where 8 holds",
+-- after 8
 abbrev pub rows : Map → Call → State → List Refusal
 rows m c x =
     (1, not (goodMap m)) ∷ (2, lengthsDiffer m x) ∷ (3, noBytes c) ∷ (4, misplaced m c) ∷ (5, baseUnaligned m c) ∷ (6, placeTaken m c x)
-    ∷ (7, noBlock m c x && not (damageRead m c x)) ∷ (8, damageRead m c x) ∷ (11, noPointer m c x) ∷ (12, noOrigin c x)
+    ∷ (15, stackFreed m c) ∷ (8, damageRead m c x) ∷ (7, noBlock m c x) ∷ (11, noPointer m c x) ∷ (12, noOrigin c x)
     ∷ (13, writesLiteral m c x) ∷ (14, noPlace m c x) ∷ []

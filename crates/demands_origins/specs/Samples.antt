@@ -7,7 +7,7 @@ use mathlib.Core.List.{List, [], _∷_}
 use Prim.Native.Nat.{ℕ}
 use lib.ListN.{replicate}
 use lib.Dec.{eqb}
-use Rattle.plain.specs.Call.{record-block, record-written, record-literal, free, written, ask, valid-write, valid-read, audit, clear, Answer, answer, refusal, done, yesNo}
+use Rattle.plain.specs.Call.{record-block, record-written, record-literal, free, remove, written, ask, valid-write, valid-read, audit, clear, Answer, answer, refusal, done, yesNo}
 use Rattle.demands.specs.GivenShadows.{Part, put}
 use Rattle.demands.specs.Samples.{sampleMap, sameAnswer, sameBytes}
 use Rattle.origins_list.specs.Call.{Call, plain, point, copy, live}
@@ -76,7 +76,7 @@ runs s cs rs k = record { first = s; calls = cs; answers = rs; heapCells = (0, [
 abbrev one : State → Call → Answer → (counter : ℕ) → Sample
 one s c r k = runs s (c ∷ []) (r ∷ []) k
 
--- one accepted call, and the bytes of the stack's cells or of the heap's afterwards
+-- one call, and the bytes of the stack's cells or of the heap's afterwards
 abbrev stack : State → Call → Answer → Part → (counter : ℕ) → Sample
 stack s c r q k = record { first = s; calls = c ∷ []; answers = r ∷ []; heapCells = (0, []); stackCells = q; counter = k }
 
@@ -103,6 +103,14 @@ stored =
     (15, 255 ∷ 0 ∷ 0 ∷ 0 ∷ 0 ∷ 0 ∷ 0 ∷ 0 ∷ 0 ∷ 255 ∷ []) 1
     ∷ heap (full ((4, 5 ∷ []) ∷ (8, 1 ∷ []) ∷ []) []) (plain (free 4104)) done
     (15, 255 ∷ 0 ∷ 0 ∷ 0 ∷ 0 ∷ 0 ∷ 0 ∷ 0 ∷ 0 ∷ 0 ∷ 0 ∷ 0 ∷ 0 ∷ 0 ∷ 0 ∷ 0 ∷ 0 ∷ 255 ∷ []) 1
+    -- and so does removing
+    ∷ stack (full [] ((4, 8 ∷ 12 ∷ []) ∷ [])) (plain (remove 8196)) done (7, 255 ∷ 0 ∷ 0 ∷ 0 ∷ 0 ∷ 0 ∷ 0 ∷ 0 ∷ 0 ∷ 255 ∷ []) 1
+    ∷ stack (full [] ((4, 28 ∷ 32 ∷ 36 ∷ 40 ∷ []) ∷ [])) (plain (remove 8196)) done (7, 255 ∷ 0 ∷ 0 ∷ 0 ∷ 0 ∷ 0 ∷ 0 ∷ 0 ∷ 0 ∷ 255 ∷ []) 1
+    ∷ stack (full [] ((4, 44 ∷ 48 ∷ 52 ∷ 56 ∷ 60 ∷ []) ∷ [])) (plain (remove 8196)) done
+    (7, 255 ∷ 0 ∷ 0 ∷ 0 ∷ 0 ∷ 0 ∷ 0 ∷ 0 ∷ 0 ∷ 0 ∷ 0 ∷ 0 ∷ 0 ∷ 0 ∷ 0 ∷ 0 ∷ 0 ∷ 255 ∷ []) 1
+    -- a refused one leaves them, and free of a stack address is one
+    ∷ stack (full [] ((4, 28 ∷ 32 ∷ 36 ∷ 40 ∷ []) ∷ [])) (plain (remove 8197)) (refusal 7) (7, 255 ∷ 255 ∷ 255 ∷ 255 ∷ 255 ∷ 255 ∷ 255 ∷ 255 ∷ 255 ∷ []) 1
+    ∷ stack (full [] ((4, 28 ∷ 32 ∷ 36 ∷ 40 ∷ []) ∷ [])) (plain (free 8196)) (refusal 15) (7, 255 ∷ 255 ∷ 255 ∷ 255 ∷ 255 ∷ 255 ∷ 255 ∷ 255 ∷ 255 ∷ []) 1
     -- a block whose base is no multiple of 4: its origin is in the cell that contains the base
     ∷ stack (given (offCell ∷ []) ((0, 7 ∷ []) ∷ []) 1) (point 8196 8193) done (8, 0 ∷ 0 ∷ 0 ∷ 0 ∷ 7 ∷ 0 ∷ 0 ∷ 0 ∷ []) 1
     -- kind 12 copies the referent half, from the second cell to the first
@@ -140,6 +148,7 @@ refused =
     ∷ one (long 127 64) (plain (ask 8192)) (refusal 2) 1
     ∷ one (long 128 63) (plain (record-block 8192 0)) (refusal 2) 1
     ∷ one (long 129 64) (plain (free 0)) (refusal 2) 1
+    ∷ one (long 128 63) (plain (remove 0)) (refusal 2) 1
     ∷ one (long 128 65) (live 0 0) (refusal 2) 1
     ∷ one (long 64 128) (plain audit) (refusal 2) 1
     ∷ one (long 128 64) (plain audit) done 1
@@ -184,12 +193,23 @@ followed =
     ∷ live 8192 4104 ∷ live 8196 4104 ∷ copy 8196 8192 ∷ live 8196 4104 ∷ [])
     (done ∷ done ∷ done ∷ done ∷ yesNo true ∷ yesNo true ∷ done ∷ done ∷ yesNo true ∷ done ∷ done ∷ [])
     3
-    -- freeing the block that holds the cell unsets the pointer; a pointer may point into its own block
+    -- removing the block that holds the cell unsets the pointer; a pointer may point into its own block
     ∷ runs begun
-    (plain (record-block 8192 8) ∷ point 8196 8192 ∷ live 8196 8199 ∷ plain (free 8192) ∷ live 8196 8192 ∷ plain (record-block 8192 8) ∷ live 8196 8192
+    (plain (record-block 8192 8) ∷ point 8196 8192 ∷ live 8196 8199 ∷ plain (remove 8192) ∷ live 8196 8192 ∷ plain (record-block 8192 8) ∷ live 8196 8192
     ∷ [])
     (done ∷ done ∷ yesNo true ∷ done ∷ refusal 11 ∷ done ∷ done ∷ [])
     3
+    -- and so does freeing one of the heap
+    ∷ runs begun
+    (plain (record-block 4104 8) ∷ point 4108 4104 ∷ live 4108 4111 ∷ plain (free 4104) ∷ plain (record-block 4104 8) ∷ live 4108 4104 ∷ [])
+    (done ∷ done ∷ yesNo true ∷ done ∷ done ∷ done ∷ [])
+    3
+    -- a pointer to a stack block that is removed, and another takes its place; of the heap nothing is removed, of the stack nothing freed
+    ∷ runs begun
+    (plain (record-block 4104 8) ∷ plain (record-block 8192 8) ∷ point 4104 8192 ∷ plain (free 8192) ∷ plain (remove 4104) ∷ live 4104 8199
+    ∷ plain (remove 8192) ∷ live 4104 8192 ∷ plain (record-block 8192 8) ∷ plain (valid-write 8192 8 8192) ∷ live 4104 8192 ∷ [])
+    (done ∷ done ∷ done ∷ refusal 15 ∷ refusal 4 ∷ yesNo true ∷ done ∷ done ∷ done ∷ yesNo true ∷ done ∷ [])
+    4
     -- clear and refusals leave the counter; marks change nothing of it
     ∷ runs begun
     (plain (record-block 8192 4) ∷ plain (record-block 8192 4) ∷ plain (written 8192 4) ∷ plain clear ∷ plain (record-block 8192 4) ∷ [])

@@ -16,6 +16,7 @@ pub use monitor_initialised::initialised;
 pub use monitor_next::next;
 pub use monitor_place::place;
 pub use monitor_record::begin;
+pub use monitor_remove::remove;
 pub use monitor_valid::valid;
 pub use monitor_written::written;
 

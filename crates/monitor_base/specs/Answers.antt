@@ -12,7 +12,7 @@ use Rattle.monitor_base.specs.declared.PlainCall.the-variants as any
 use Rattle.monitor_base.specs.declared.Query.{Query}
 use Rattle.monitor_base.specs.declared.Query.the-variants.{Ask, Valid, Initialised, Next, Audit}
 use Rattle.monitor_base.specs.declared.Update.{Update}
-use Rattle.monitor_base.specs.declared.Update.the-variants.{Clear, Begin, Free, Written}
+use Rattle.monitor_base.specs.declared.Update.the-variants.{Clear, Begin, Free, Remove, Written}
 
 -- the number and the four fields
 abbrev pub answerOf : Answer → plain.Answer
@@ -33,6 +33,7 @@ abbrev pub updateOf : Update → plain.Call
 updateOf Clear = plain.clear
 updateOf (Begin how base length) = plain.begin how (base .0) length
 updateOf (Free base) = plain.free (base .0)
+updateOf (Remove base) = plain.remove (base .0)
 updateOf (Written a n) = plain.written (a .0) n
 
 abbrev pub callOf : Call → plain.Call

@@ -30,6 +30,7 @@ pub enum Update {
     Clear,
     Begin(Beginning, Address, u32),
     Free(Address),
+    Remove(Address),
     Written(Address, u32),
 }
 
@@ -52,7 +53,13 @@ pub enum Located {
     Outside,
 }
 
-// What the check of a call that writes found: its number, and, where that is 0, where its address lies.
+// What the check of a call that ends a block found: the block's position and length, or, where nothing is to be erased, the number.
+pub enum Ending {
+    Block(Position, u32),
+    Settled(u32),
+}
+
+// What the check of any other call that writes found: its number, and, where that is 0, where its address lies.
 pub struct Checked {
     pub number: u32,
     pub place: Located,

@@ -59,16 +59,34 @@ pub extern "C" fn block_monitor_begin(
 pub extern "C" fn block_monitor_free(
     map: &[u32; 4],
     heap: &mut [u8],
+    primary: &[u8],
+    secondary: &[u8],
+    base: u32,
+    fields: &mut [u32; 4],
+) -> u32
+    ensures { λ k. ⌜ left k (now (fields .exit)) (now (heap .exit)) (now (primary .entry)) (now (secondary .entry))
+        ≡ call (mapOf (now (map .entry))) (plain.free base) (now (heap .entry), (now (primary .entry), now (secondary .entry))) ⌝ }
+{
+    told(
+        monitor::free(map_of(map), heap, primary, secondary, Address(base)),
+        fields,
+    )
+}
+
+#[no_mangle]
+pub extern "C" fn block_monitor_remove(
+    map: &[u32; 4],
+    heap: &[u8],
     primary: &mut [u8],
     secondary: &mut [u8],
     base: u32,
     fields: &mut [u32; 4],
 ) -> u32
-    ensures { λ k. ⌜ left k (now (fields .exit)) (now (heap .exit)) (now (primary .exit)) (now (secondary .exit))
-        ≡ call (mapOf (now (map .entry))) (plain.free base) (now (heap .entry), (now (primary .entry), now (secondary .entry))) ⌝ }
+    ensures { λ k. ⌜ left k (now (fields .exit)) (now (heap .entry)) (now (primary .exit)) (now (secondary .exit))
+        ≡ call (mapOf (now (map .entry))) (plain.remove base) (now (heap .entry), (now (primary .entry), now (secondary .entry))) ⌝ }
 {
     told(
-        monitor::free(map_of(map), heap, primary, secondary, Address(base)),
+        monitor::remove(map_of(map), heap, primary, secondary, Address(base)),
         fields,
     )
 }

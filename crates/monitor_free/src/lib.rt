@@ -1,4 +1,4 @@
-// Frees a block: the check, then the effect.
+// Frees a block of the heap: the check, then the effect.
 ghost use mathlib.Core.Path.{_≡_};
 ghost use Rattle.monitor_base.specs.Answers.{outcome};
 ghost use Rattle.monitor_base.specs.Calls.{call};
@@ -6,27 +6,20 @@ ghost use Rattle.plain.specs.Call as plain;
 use map::Address;
 use map::Map;
 use monitor_base::Answer;
-use monitor_base::guard;
-use monitor_erase::erase;
-use monitor_free_check::Found;
+use monitor_base::Ending;
+use monitor_base::guard::refusal;
 use monitor_free_check::check;
 
-// Zeroes the shadow of the block and of its header. Address 0, C's null pointer, is accepted and nothing changes.
-pub fn free(
-    map: Map,
-    heap: &mut [u8],
-    primary: &mut [u8],
-    secondary: &mut [u8],
-    base: Address,
-) -> Answer
-    ensures { λ r. ⌜ outcome r (now (heap .exit)) (now (primary .exit)) (now (secondary .exit))
+// Zeroes the shadow of the block and of its header. Address 0, C's null pointer, is accepted and nothing changes; of the stack nothing may be freed.
+pub fn free(map: Map, heap: &mut [u8], primary: &[u8], secondary: &[u8], base: Address) -> Answer
+    ensures { λ r. ⌜ outcome r (now (heap .exit)) (now (primary .entry)) (now (secondary .entry))
         ≡ call map (plain.free (base .0)) (now (heap .entry), (now (primary .entry), now (secondary .entry))) ⌝ }
 {
-    let Found {
-        number,
-        place,
-        length,
-    } = check(map, heap, primary, secondary, base);
-    erase(heap, primary, secondary, place, length);
-    guard::refusal(number)
+    match check(map, heap, primary, secondary, base) {
+        Ending::Block(p, length) => {
+            heap_place::erase(heap, p, length);
+            refusal(0)
+        }
+        Ending::Settled(number) => refusal(number),
+    }
 }

@@ -8,6 +8,7 @@ use monitor_base::Update;
 use monitor_clear::clear;
 use monitor_free::free;
 use monitor_record::begin;
+use monitor_remove::remove;
 use monitor_written::written;
 
 pub fn update_step(
@@ -24,6 +25,7 @@ pub fn update_step(
         Update::Clear => clear(map, heap, primary, secondary),
         Update::Begin(how, base, length) => begin(map, heap, primary, secondary, base, length, how),
         Update::Free(base) => free(map, heap, primary, secondary, base),
+        Update::Remove(base) => remove(map, heap, primary, secondary, base),
         Update::Written(a, n) => written(map, heap, primary, secondary, a, n),
     }
 }

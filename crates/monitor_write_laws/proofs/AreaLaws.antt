@@ -4,18 +4,16 @@ use mathlib.Core.Bool.{Bool, true, false}
 use Prim.Native.Nat.{ℕ, _+_, _-_, _%_, _≤_}
 use native.Mathlib.Omega.{arith}
 use lib.ListN.{length}
-use lib.Dec.{leb, eqb}
-use borrow.Author.Tests.{eqb-true}
+use lib.Dec.{leb}
 use Rattle.number.specs.Parts.{at}
-use Rattle.number.proofs.TestLaws.{Test, is-true, is-false, test, and-false-r, false-of, cond-true}
+use Rattle.number.proofs.TestLaws.{and-false-r, false-of, cond-true}
 use Rattle.map.specs.declared.Map.{Map}
 use Rattle.map.specs.declared.Area.the-variants.{Heap, Stack, Outside}
 use Rattle.map.specs.Map.{goodMap, within, areaOf}
 use Rattle.map.proofs.MapLaws.{Good, good-true, within-true, true-within}
 use Rattle.plain.specs.Rules.{Rules}
 use Rattle.plain.specs.Areas.{heapRules, stackRules, mapRules}
-use Rattle.plain.specs.Reading.{Reading, nothing, block, damaged}
-use Rattle.plain.specs.ShadowCalls.{lengthOf}
+use Rattle.plain.specs.Reading.{block}
 use Rattle.plain.proofs.AreaLaws.{heap-shifted, heap-unshifted, stack-shifted, stack-unshifted}
 use Rattle.heap_layout.specs.Reading.{heapReading}
 use Rattle.heap_layout.specs.Ops.{heapOps}
@@ -25,40 +23,19 @@ use Rattle.stack_layout.specs.Ops.{stackOps}
 use Rattle.stack_layout.proofs.ReadingLaws as stack
 use Rattle.shadows.specs.Shadows.{Shadows, lengthsFit, shadowOps}
 use Rattle.shadows.proofs.ShadowLaws.{Fit, fit-true}
-use Rattle.monitor_write_laws.specs.AreaCalls.{freeRefusal}
 use Rattle.monitor_base.proofs.LocatingLaws.{area-heap, area-stack, area-out, heap-room, stack-room}
 use Rattle.monitor_write_laws.proofs.AtLaws.{fits-same, aligned-same, range-at, At}
 
--- ---- a block that is read lies in its area
+-- ---- a block that is read at its base lies in its area
 
--- the block that a free is asked for
-first : (r : Reading) (P : ℕ → Type 0) → ((b l w : ℕ) (k : Bool) → r ≡ block b l 0 w k → P l) → freeRefusal r ≡ 0 → P (lengthOf r)
-first nothing P f e = absurd (omega arith)
-first damaged P f e = absurd (omega arith)
-first (block b l o w k) P f e = go (test (eqb o 0))
-  where
-    go : Test (eqb o 0) → P l
-    go (is-true t) = f b l w k (rw (eqb-true o 0 t))
-    go (is-false t) = absurd (omega (arith, rw t at e))
+pub heap-first : (size : ℕ) (f : ℕ → ℕ) (p b l w : ℕ) (k : Bool) → heapReading 4 8 size f p ≡ block b l 0 w k → (8 ≤ p) × (p % 8 ≡ 0) × (p + l ≤ size) × (1 ≤ l)
+heap-first size f p b l w k h =
+    let t = heap.reading-told 4 8 size f p b l 0 w k h in
+    let q : p ≡ b = omega arith in
+    (omega arith, rw q (t .aligned), omega arith, t .some)
 
-module _ (size : ℕ) (f : ℕ → ℕ) (p : ℕ) where
-  pub heap-first : (l : ℕ) → l ≡ lengthOf (heapReading 4 8 size f p) → freeRefusal (heapReading 4 8 size f p) ≡ 0
-      → (8 ≤ p) × (p % 8 ≡ 0) × (p + l ≤ size) × (1 ≤ l)
-  heap-first l q e =
-      rw q
-      (first (heapReading 4 8 size f p) (λ l. (8 ≤ p) × (p % 8 ≡ 0) × (p + l ≤ size) × (1 ≤ l))
-      (λ b l w k h.
-      let t = heap.reading-told 4 8 size f p b l 0 w k h in
-      let q : p ≡ b = omega arith in
-      (omega arith, rw q (t .aligned), omega arith, t .some))
-      e)
-
-module _ (size : ℕ) (f g : ℕ → ℕ) (p : ℕ) where
-  pub stack-first : (l : ℕ) → l ≡ lengthOf (stackReading size f g p) → freeRefusal (stackReading size f g p) ≡ 0 → p + l ≤ size
-  stack-first l q e =
-      rw q
-      (first (stackReading size f g p) (λ l. p + l ≤ size)
-      (λ b l w k h. let t = stack.reading-told size f g p b l 0 w k h in omega arith) e)
+pub stack-first : (size : ℕ) (f g : ℕ → ℕ) (p b l w : ℕ) (k : Bool) → stackReading size f g p ≡ block b l 0 w k → p + l ≤ size
+stack-first size f g p b l w k h = let t = stack.reading-told size f g p b l 0 w k h in omega arith
 
 -- ---- an address of neither area
 

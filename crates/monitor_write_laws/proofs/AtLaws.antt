@@ -4,19 +4,21 @@ use mathlib.Core.Bool.{Bool, true, false, cond, not, _&&_}
 use mathlib.Core.List.{_++_}
 use Prim.Native.Nat.{ℕ, zero, suc, _+_, _-_, _≤_, _<_}
 use native.Mathlib.Omega.{arith}
-use lib.Dec.{eqb}
-use Rattle.number.proofs.TestLaws.{Test, is-true, is-false, test, same-test, not-both}
+use borrow.Author.Tests.{ne-eqb}
+use Rattle.number.proofs.TestLaws.{Test, is-true, is-false, test, same-test}
+use Rattle.map.specs.declared.Position.{Position}
 use Rattle.plain.specs.declared.Beginning.{Beginning}
 use Rattle.plain.specs.Block.{begun}
 use Rattle.plain.specs.Rules.{Rules}
 use Rattle.plain.specs.Reading.{Reading, nothing, block, damaged}
 use Rattle.plain.specs.Lift.{Shifted, readingUp}
 use Rattle.plain.specs.Ops.{Ops, markRange, readAny}
-use Rattle.plain.specs.Call.{Call, begin, free, Answer, done, firstOf, unless, byRules}
-use Rattle.plain.specs.ShadowCalls.{isDamaged, inOne, isLiteral, lengthOf, byShadows, shadowsAfter, shadowStep}
+use Rattle.plain.specs.Call.{Call, begin, Answer, done, firstOf, unless, byRules}
+use Rattle.plain.specs.ShadowCalls.{isDamaged, inOne, isLiteral, byShadows, shadowsAfter, shadowStep}
 use Rattle.plain.proofs.LiftLaws.{Unshifted}
-use Rattle.monitor_write_laws.specs.AreaCalls.{freeRefusal, writtenRefusal, freeAt}
-use Rattle.monitor_write_laws.proofs.StepLaws.{freed, free-is}
+use Rattle.monitor_write_laws.specs.AreaCalls.{writtenRefusal}
+use Rattle.monitor_write_laws.specs.Checks.{endingOf, endedBy}
+use Rattle.monitor_write_laws.proofs.StepLaws.{ended}
 
 -- ---- an area's rules at a position
 
@@ -94,15 +96,14 @@ module _ {S X : Type 0} (R : Rules) (O : Ops S) (s : S) (a : ℕ) (E : Rules) (P
       go (is-true f) = rw (i .vacant l, i .aligned l (i .fits l ∙ f), i .fits l, i .heap)
       go (is-false f) = rw (i .fits l, f)
 
-  there : readAny R O s a ≡ readingUp (i .start) (P .read x p)
+  pub there : readAny R O s a ≡ readingUp (i .start) (P .read x p)
   unfolding readAny
   there = rw (i .inside) (i .read)
 
-  -- where no area holds address 0
-  pub free-at : R .inside 0 ≡ false → shadowStep R O (free a) s ≡ beside put (freeAt P p x)
-  free-at n = free-is R O s a (λ z. not-both (R .inside a) (i .inside) (ap (R .inside) z ∙ n)) true _ (i .inside) there ∙ go (P .read x p)
-    where
-      go : (r : Reading) → freed R O s a true (readingUp (i .start) r) ≡ beside put (unless (freeRefusal r) x (P .erase x p (lengthOf r), done))
-      go nothing = rw (i .whole)
-      go damaged = rw (i .whole)
-      go (block b l o w t) = beside-same _ (cond (not (eqb o 0)) 7 0) _ (P .erase x p l) refl (λ z. i .erase l)
+  -- what is read at the address decides what is read at the position
+  pub ended-at : (q : Position) → q .0 ≡ p → (r : Reading)
+      → ended R O s a (readingUp (i .start) r) ≡ endedBy (λ k l. put (P .erase x k l)) s (endingOf r q)
+  ended-at q e nothing = refl
+  ended-at q e damaged = refl
+  ended-at q e (block b l zero w t) = ap (λ (y : S). (y, done)) (i .erase l) ∙ rw e
+  ended-at q e (block b l (suc o) w t) = rw (ne-eqb (suc o) 0 (omega arith))

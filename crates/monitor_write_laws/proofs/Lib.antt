@@ -6,5 +6,5 @@ pub mod AreaLaws
 pub mod CheckLaws
 pub mod RecordingLaws
 pub mod RecordChecks
-pub mod FreeChecks
+pub mod EndChecks
 pub mod WrittenChecks

@@ -11,19 +11,9 @@ use Rattle.plain.specs.Block.{begun}
 use Rattle.plain.specs.Rules.{Rules}
 use Rattle.plain.specs.Reading.{Reading}
 use Rattle.plain.specs.Ops.{Ops, markRange, readAny}
-use Rattle.plain.specs.Call.{Call, begin, free, written, Answer, refusal, done, firstOf, unless, allows}
+use Rattle.plain.specs.Call.{Call, begin, free, remove, written, Answer, refusal, done, firstOf, unless, allows, isStack}
 use Rattle.plain.specs.ShadowCalls.{isDamaged, isFirst, inOne, isLiteral, lengthOf, shadowStep}
-use Rattle.monitor_write_laws.specs.AreaCalls.{freeRefusal, writtenRefusal, freeAt}
-
--- accepted, by a number that is known by an equation
-module _ {S : Type 0} (s : S) where
-  by-zero : (j k : ℕ) (t u : S) → k ≡ j → k ≡ 0 → u ≡ t → unless j s (t, done) ≡ (u, refusal k)
-  by-zero j k t u e z h = rw (← e, z, h)
-
--- free at a position, and the number k that the reading there decides
-module _ {S : Type 0} (O : Ops S) (s : S) (p k : ℕ) (q : k ≡ freeRefusal (O .read s p)) where
-  pub free-done : k ≡ 0 → (l : ℕ) → l ≡ lengthOf (O .read s p) → (t : S) → t ≡ O .erase s p l → freeAt O p s ≡ (t, refusal k)
-  free-done z l e t h = by-zero s (freeRefusal (O .read s p)) k (O .erase s p (lengthOf (O .read s p))) t q z (h ∙ ap (O .erase s p) e)
+use Rattle.monitor_write_laws.specs.AreaCalls.{writtenRefusal}
 
 module _ {S : Type 0} (R : Rules) (O : Ops S) (s : S) where
   abbrev step : Call → S × Answer
@@ -51,22 +41,37 @@ module _ {S : Type 0} (R : Rules) (O : Ops S) (s : S) where
     unfolding shadowStep
     begin-0 n f a v t e = rw (ne-eqb l 0 n, f, a, v, e)
 
-  -- what free does, by whether the address lies in an area and by what is read there
-  abbrev pub freed : (a : ℕ) → Bool → Reading → S × Answer
-  freed a i r = unless (firstOf ((4, not i) ∷ (8, isDamaged r) ∷ (7, not (isFirst r)) ∷ [])) s (O .erase s a (lengthOf r), done)
+  -- what free and remove do by what is read at an address of their area
+  abbrev pub ended : (a : ℕ) → Reading → S × Answer
+  ended a r = unless (firstOf ((8, isDamaged r) ∷ (7, not (isFirst r)) ∷ [])) s (O .erase s a (lengthOf r), done)
 
-  pub free-is : (a : ℕ) → a ≢ 0 → (i : Bool) (r : Reading) → R .inside a ≡ i → readAny R O s a ≡ r → step (free a) ≡ freed a i r
+  pub free-reads : (a : ℕ) → a ≢ 0 → R .inside a ≡ true → R .heap a ≡ true → (r : Reading) → readAny R O s a ≡ r → step (free a) ≡ ended a r
   unfolding shadowStep
-  free-is zero n i r e h = absurd (n refl)
-  free-is (suc a) n i r e h = ap (freed (suc a) (R .inside (suc a))) h ∙ ap (λ (x : Bool). freed (suc a) x r) e
+  free-reads zero n i h r e = absurd (n refl)
+  free-reads (suc a) n i h r e = rw (i, h) (ap (ended (suc a)) e)
 
   pub free-4 : (a : ℕ) → a ≢ 0 → R .inside a ≡ false → step (free a) ≡ (s, refusal 4)
-  free-4 a n i = free-is a n false (readAny R O s a) i refl
+  unfolding shadowStep
+  free-4 zero n i = absurd (n refl)
+  free-4 (suc a) n i = rw i
+
+  pub free-15 : (a : ℕ) → a ≢ 0 → R .inside a ≡ true → R .heap a ≡ false → step (free a) ≡ (s, refusal 15)
+  unfolding shadowStep
+  free-15 zero n i h = absurd (n refl)
+  free-15 (suc a) n i h = rw (i, h)
 
   -- C's null pointer
   pub free-null : (a : ℕ) → a ≡ 0 → step (free a) ≡ (s, done)
   unfolding shadowStep
   free-null a e = rw e
+
+  pub remove-reads : (a : ℕ) → R .inside a ≡ true → R .heap a ≡ false → (r : Reading) → readAny R O s a ≡ r → step (remove a) ≡ ended a r
+  unfolding shadowStep
+  remove-reads a i h r e = rw (i, h) (ap (ended a) e)
+
+  pub remove-4 : (a : ℕ) → isStack R a ≡ false → step (remove a) ≡ (s, refusal 4)
+  unfolding shadowStep
+  remove-4 a i = rw i
 
   module _ (a : ℕ) where
     abbrev pub marks : (n : ℕ) → Bool → Reading → S × Answer

@@ -5,23 +5,14 @@ use Prim.Native.Nat.{ℕ}
 use lib.ListN.{length}
 use Rattle.plain.specs.Areas.{heapRules, stackRules}
 use Rattle.plain.specs.Reading.{Reading}
-use Rattle.plain.specs.Ops.{Ops}
-use Rattle.plain.specs.Call.{Call, Answer, done, firstOf, unless}
-use Rattle.plain.specs.ShadowCalls.{isDamaged, isFirst, inOne, isLiteral, lengthOf, shadowStep}
+use Rattle.plain.specs.Call.{Call, Answer, firstOf}
+use Rattle.plain.specs.ShadowCalls.{isDamaged, inOne, isLiteral, shadowStep}
 use Rattle.heap_layout.specs.Ops.{heapOps}
 use Rattle.stack_layout.specs.Ops.{StackShadows, stackOps}
 
--- the numbers that a reading decides: of the base that is to be freed, of the first of n bytes that are to be written in an area that may hold
--- literals, or in one that cannot
-abbrev pub freeRefusal : Reading → ℕ
-freeRefusal r = firstOf ((8, isDamaged r) ∷ (7, not (isFirst r)) ∷ [])
-
+-- the number that a reading decides of the first of n bytes that are to be written, in an area that may hold literals, or in one that cannot
 abbrev pub writtenRefusal : (literals : Bool) (n : ℕ) → Reading → ℕ
 writtenRefusal t n r = firstOf ((8, isDamaged r) ∷ (7, not (inOne n r)) ∷ (13, t && isLiteral r) ∷ [])
-
--- free by a position, not an address: position 0 is the area's first byte, not C's null pointer, and has no case of its own
-abbrev pub freeAt : {S : Type 0} → Ops S → (p : ℕ) → S → S × Answer
-freeAt O p s = unless (freeRefusal (O .read s p)) s (O .erase s p (lengthOf (O .read s p)), done)
 
 -- a record by a position, as on an area that begins at address 0
 abbrev pub onHeap : Call → List ℕ → List ℕ × Answer

@@ -1,21 +1,27 @@
 -- A call that writes is a check, which only reads, and an effect at the place that the check found. Assumes nothing.
 use mathlib.Core.Path.{_≡_}
-use mathlib.Core.Bool.{true}
+use mathlib.Core.Bool.{true, cond}
 use mathlib.Core.Logic.{_≢_}
 use mathlib.Core.List.{List}
 use Prim.Native.Nat.{ℕ, _+_, _%_, _≤_}
 use lib.ListN.{length}
+use lib.Dec.{eqb}
 use Rattle.map.specs.declared.Map.{Map}
+use Rattle.map.specs.declared.Position.{Position}
 use Rattle.plain.specs.declared.Beginning.{Beginning}
 use Rattle.plain.specs.Areas.{mapRules}
 use Rattle.plain.specs.Block.{begun}
 use Rattle.plain.specs.Ops.{markRange, readAny}
-use Rattle.plain.specs.Call.{Call, number}
+use Rattle.plain.specs.Reading.{Reading, nothing, block, damaged}
+use Rattle.plain.specs.Call.{Call, Answer, number, refusal, done}
 use Rattle.plain.specs.ShadowCalls.{lengthOf}
 use Rattle.heap_layout.specs.Ops.{heapOps, heapStamp, heapErase}
 use Rattle.stack_layout.specs.Ops.{stackOps, stackVacant, stackStamp, stackErase}
 use Rattle.shadows.specs.Shadows.{Shadows, shadowOps}
 use Rattle.monitor_base.specs.Calls.{call}
+use Rattle.monitor_base.specs.Locating.{Lies}
+use Rattle.monitor_base.specs.declared.Ending.{Ending}
+use Rattle.monitor_base.specs.declared.Ending.the-variants.{Block, Settled}
 use Rattle.monitor_base.specs.declared.Located.{Located}
 use Rattle.monitor_base.specs.declared.Located.the-variants.{Heap, Stack, Outside}
 
@@ -43,24 +49,43 @@ stampedAt (Heap p) how l s = (heapStamp 4 8 (s .0) (begun how (p .0) l), s .1)
 stampedAt (Stack p) how l s = (s .0, stackStamp (s .1) (begun how (p .0) l))
 stampedAt Outside how l s = s
 
--- ---- a free
+-- ---- a free, and a remove
+
+-- what a reading at a position says of a block that is to end there: its own first byte, or the number
+abbrev pub endingOf : Reading → Position → Ending
+endingOf nothing p = Settled 7
+endingOf (block b l o w t) p = cond (eqb o 0) (Block p l) (Settled 7)
+endingOf damaged p = Settled 8
+
+-- what a call comes to by what its check found, where `erase` empties a place
+abbrev pub endedBy : {S : Type 0} → (erase : (p l : ℕ) → S) → S → Ending → S × Answer
+endedBy erase s (Block p l) = (erase (p .0) l, done)
+endedBy erase s (Settled k) = (s, refusal k)
+
+-- a free, in the heap; a remove, in the stack
+abbrev pub freedBy : Shadows → Ending → Shadows × Answer
+freedBy s = endedBy (λ p l. (heapErase 4 8 (s .0) p l, s .1)) s
+
+abbrev pub removedBy : Shadows → Ending → Shadows × Answer
+removedBy s = endedBy (λ p l. (s .0, stackErase (s .1) p l)) s
 
 -- the length of the block that is read at an address, 0 where none is
 abbrev pub blockLength : Map → Shadows → (a : ℕ) → ℕ
 blockLength m s a = lengthOf (readAny (mapRules m) (shadowOps m) s a)
 
--- a block of l bytes can be erased there; in neither area nothing is to be done
-abbrev pub Erasable : Located → (l : ℕ) → Shadows → Type 0
-Erasable (Heap p) l s =
-    ((8 ≤ p .0) × (p .0 % 8 ≡ 0) × (p .0 + l ≤ length (s .0)))
+-- a block that was found is that of the address, and can be erased there; else only a free of C's null pointer is accepted, and no remove
+abbrev pub Freeable : Map → Shadows → (a : ℕ) → Ending → Type 0
+Freeable m s a (Block p l) =
+    (Lies m a (Heap p) × (l ≡ blockLength m s a))
+    × ((8 ≤ p .0) × (p .0 % 8 ≡ 0) × (p .0 + l ≤ length (s .0)))
     × ((1 ≤ l) × (length (s .0) % 8 ≡ 0) × (length (s .0) ≤ 131072))
-Erasable (Stack p) l s = (p .0 + l ≤ length (s .1 .0)) × (length (s .1 .0) ≡ length (s .1 .1)) × (length (s .1 .0) ≤ 65536)
-Erasable Outside l s = Unit {0}
+Freeable m s a (Settled k) = k ≡ 0 → a ≡ 0
 
-abbrev pub erasedAt : Located → (l : ℕ) → Shadows → Shadows
-erasedAt (Heap p) l s = (heapErase 4 8 (s .0) (p .0) l, s .1)
-erasedAt (Stack p) l s = (s .0, stackErase (s .1) (p .0) l)
-erasedAt Outside l s = s
+abbrev pub Removable : Map → Shadows → (a : ℕ) → Ending → Type 0
+Removable m s a (Block p l) =
+    (Lies m a (Stack p) × (l ≡ blockLength m s a))
+    × ((p .0 + l ≤ length (s .1 .0)) × (length (s .1 .0) ≡ length (s .1 .1)) × (length (s .1 .0) ≤ 65536))
+Removable m s a (Settled k) = k ≢ 0
 
 -- ---- a mark of written bytes
 

@@ -23,6 +23,7 @@ pub use origins_questions::initialised;
 pub use origins_questions::next;
 pub use origins_questions::valid;
 pub use origins_record::begin;
+pub use origins_remove::remove;
 pub use origins_written::written;
 
 // Any call of the plain form.

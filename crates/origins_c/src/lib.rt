@@ -80,18 +80,46 @@ pub extern "C" fn block_monitor_origins_begin(
 pub extern "C" fn block_monitor_origins_free(
     map: &[u32; 4],
     heap: &mut [u8],
-    primary: &mut [u8],
-    secondary: &mut [u8],
+    primary: &[u8],
+    secondary: &[u8],
     heap_cells: &mut [u8],
-    stack_cells: &mut [u8],
+    stack_cells: &[u8],
     base: u32,
     fields: &mut [u32; 4],
 ) -> u32
-    ensures { λ r. ⌜ ((k : ℕ) → left r (now (fields .exit)) (now (heap .exit)) (now (primary .exit)) (now (secondary .exit)) (now («heap_cells» .exit)) (now («stack_cells» .exit)) k
+    ensures { λ r. ⌜ ((k : ℕ) → left r (now (fields .exit)) (now (heap .exit)) (now (primary .entry)) (now (secondary .entry)) (now («heap_cells» .exit)) (now («stack_cells» .entry)) k
         ≡ call (mapOf (now (map .entry))) (plain (calls.free base)) (lent (now (heap .entry)) (now (primary .entry)) (now (secondary .entry)) (now («heap_cells» .entry)) (now («stack_cells» .entry)) k)) ⌝ }
 {
     told(
         origins::free(
+            map_of(map),
+            heap,
+            primary,
+            secondary,
+            heap_cells,
+            stack_cells,
+            Address(base),
+        ),
+        fields,
+    )
+}
+
+#[no_mangle]
+pub extern "C" fn block_monitor_origins_remove(
+    map: &[u32; 4],
+    heap: &[u8],
+    primary: &mut [u8],
+    secondary: &mut [u8],
+    heap_cells: &[u8],
+    stack_cells: &mut [u8],
+    base: u32,
+    fields: &mut [u32; 4],
+) -> u32
+    ensures { λ r. ⌜ ((k : ℕ) → left r (now (fields .exit)) (now (heap .entry)) (now (primary .exit)) (now (secondary .exit)) (now («heap_cells» .entry)) (now («stack_cells» .exit)) k
+        ≡ call (mapOf (now (map .entry))) (plain (calls.remove base)) (lent (now (heap .entry)) (now (primary .entry)) (now (secondary .entry)) (now («heap_cells» .entry)) (now («stack_cells» .entry)) k)) ⌝ }
+{
+    told(
+        origins::remove(
             map_of(map),
             heap,
             primary,

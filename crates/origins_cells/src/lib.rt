@@ -1,7 +1,7 @@
-// The cells of the area that an address lies in: a number into half of a cell, zeros in the cells of a block.
+// The cells of the area that an address lies in: a number into half of a cell.
 ghost use mathlib.Core.Path.{_≡_};
 ghost use Rattle.cells_layout.specs.Cells.{Cells};
-ghost use Rattle.origins_laws.specs.CellsAt.{CellAt, CellsAt, setOriginAt, setReferentAt, zeroedAt};
+ghost use Rattle.origins_laws.specs.CellsAt.{CellAt, setOriginAt, setReferentAt};
 use monitor_base::Located;
 
 pub fn set_origin(heap_cells: &mut [u8], stack_cells: &mut [u8], l: Located, value: u32)
@@ -24,19 +24,6 @@ pub fn set_referent(heap_cells: &mut [u8], stack_cells: &mut [u8], l: Located, v
     match l {
         Located::Heap(p) => cells_store::store_referent(heap_cells, p, value),
         Located::Stack(p) => cells_store::store_referent(stack_cells, p, value),
-        Located::Outside => {}
-    }
-}
-
-// In neither area there is nothing to do: that is where the block of C's null pointer lies.
-pub fn zero(heap_cells: &mut [u8], stack_cells: &mut [u8], l: Located, len: u32)
-    requires { ⌜ CellsAt l len (now «heap_cells», now «stack_cells») ⌝ }
-    ensures { λ _. ⌜ _≡_ {A = Cells} (now («heap_cells» .exit), now («stack_cells» .exit))
-        (zeroedAt l len (now («heap_cells» .entry), now («stack_cells» .entry))) ⌝ }
-{
-    match l {
-        Located::Heap(p) => cells_zero::zero(heap_cells, p, len),
-        Located::Stack(p) => cells_zero::zero(stack_cells, p, len),
         Located::Outside => {}
     }
 }

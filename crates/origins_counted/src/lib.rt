@@ -1,4 +1,4 @@
-// The calls that write and leave the counter, with the counter.
+// Clear and written, which leave the counter, with the counter.
 ghost use mathlib.Core.Path.{_≡_};
 ghost use Rattle.plain.specs.Call as calls;
 ghost use Rattle.origins_list.specs.Call.{plain};
@@ -22,24 +22,6 @@ pub fn clear(
         (lent (now (heap .entry)) (now (primary .entry)) (now (secondary .entry)) (now («heap_cells» .entry)) (now («stack_cells» .entry)) counter) ⌝ }
 {
     let answer = origins_clear::clear(map, heap, primary, secondary, heap_cells, stack_cells);
-    Counted { answer, counter }
-}
-
-pub fn free(
-    map: Map,
-    heap: &mut [u8],
-    primary: &mut [u8],
-    secondary: &mut [u8],
-    heap_cells: &mut [u8],
-    stack_cells: &mut [u8],
-    counter: u64,
-    base: Address,
-) -> Counted
-    ensures { λ r. ⌜ outcome r (now (heap .exit)) (now (primary .exit)) (now (secondary .exit)) (now («heap_cells» .exit)) (now («stack_cells» .exit))
-        ≡ call map (plain (calls.free (base .0)))
-        (lent (now (heap .entry)) (now (primary .entry)) (now (secondary .entry)) (now («heap_cells» .entry)) (now («stack_cells» .entry)) counter) ⌝ }
-{
-    let answer = origins_free::free(map, heap, primary, secondary, heap_cells, stack_cells, base);
     Counted { answer, counter }
 }
 

@@ -28,7 +28,7 @@ use Rattle.monitor_read_laws.specs.Asked.{readingAt}
 use Rattle.origins_list.specs.StateCalls.{originRead}
 use Rattle.cells_layout.specs.Cells.{Cells, cellsFit, cellOps}
 use Rattle.cells_layout.proofs.FitLaws.{CellLengths, cells-fit-true}
-use Rattle.origins_laws.specs.CellsAt.{CellAt, CellsAt, referentAt, setReferentAt, setOriginAt, zeroedAt, originIn, originAt}
+use Rattle.origins_laws.specs.CellsAt.{CellAt, referentAt, setReferentAt, setOriginAt, zeroedAt, originIn, originAt}
 
 -- ---- the operations, by where the address lies
 

@@ -6,7 +6,7 @@ use Rattle.map.specs.declared.Map.{Map}
 use Rattle.map.specs.Map.{goodMap}
 use Rattle.plain.specs.Areas.{mapRules}
 use Rattle.plain.specs.Call as base
-use Rattle.plain.specs.Call.{clear, begin, free, written, ask, valid, initialised, next, audit, place, Answer, refusal, firstOf, unless}
+use Rattle.plain.specs.Call.{clear, begin, free, remove, written, ask, valid, initialised, next, audit, place, Answer, refusal, firstOf, unless}
 use Rattle.plain.specs.ShadowCalls.{shadowsAfter, shadowAnswer}
 use Rattle.shadows.specs.Shadows.{Shadows, shadowOps}
 use Rattle.monitor_base.specs.Calls as plainForm
@@ -49,6 +49,7 @@ module _ (m : Map) (s : Shadows) (y : Cells) (k : ℕ) where
     call-other clear n = rw fit
     call-other (free zero) n = rw fit
     call-other (free (suc b)) n = rw fit
+    call-other (remove b) n = rw fit
     call-other (written a i) n = rw fit
     call-other (ask a) n = rw fit
     call-other (valid w a i from) n = rw fit

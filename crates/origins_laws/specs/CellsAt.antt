@@ -15,12 +15,6 @@ CellAt (Heap p) x = (2 * p .0 < length (x .0)) × (length (x .0) % 8 ≡ 0) × (
 CellAt (Stack p) x = (2 * p .0 < length (x .1)) × (length (x .1) % 8 ≡ 0) × (length (x .1) ≤ 262144)
 CellAt Outside x = ⊥
 
--- there are cells for the l bytes from there on; in neither area nothing is to be done
-abbrev pub CellsAt : Located → (l : ℕ) → Cells → Type 0
-CellsAt (Heap p) l x = (2 * (p .0 + l) ≤ length (x .0)) × (length (x .0) % 8 ≡ 0) × (length (x .0) ≤ 262144)
-CellsAt (Stack p) l x = (2 * (p .0 + l) ≤ length (x .1)) × (length (x .1) % 8 ≡ 0) × (length (x .1) ≤ 262144)
-CellsAt Outside l x = Unit {0}
-
 abbrev pub referentAt : Located → Cells → ℕ
 referentAt (Heap p) x = halfAt (x .0) (referentPlace (p .0))
 referentAt (Stack p) x = halfAt (x .1) (referentPlace (p .0))

@@ -15,7 +15,7 @@ use Rattle.plain.specs.Block.{holds, hasBase}
 use Rattle.plain.specs.Blocks.{find, any}
 use Rattle.plain.specs.Rules.{Rules, Sound}
 use Rattle.plain.specs.Call as base
-use Rattle.plain.specs.Call.{clear, begin, free, written, ask, valid, initialised, next, audit, place, answer, number, yesNo, Refusal, firstOf, unless}
+use Rattle.plain.specs.Call.{clear, begin, free, remove, written, ask, valid, initialised, next, audit, place, answer, number, yesNo, Refusal, firstOf, unless}
 use Rattle.plain.proofs.RunLaws.{unless-number}
 use Rattle.origins_list.specs.Call.{Call, plain, point, copy, live}
 use Rattle.origins_list.specs.Cells.{Small}
@@ -49,7 +49,8 @@ listed-8 : (R : Rules) (c : Call) (x : OriginList) → No8 (byOrigins R c x)
 listed-8 R (plain clear) x = tt
 listed-8 R (plain (begin h b l)) x = (omega arith, (omega arith, (omega arith, (omega arith, (omega arith, (omega arith, tt))))))
 listed-8 R (plain (free zero)) x = tt
-listed-8 R (plain (free (suc b))) x = (omega arith, (omega arith, tt))
+listed-8 R (plain (free (suc b))) x = (omega arith, (omega arith, (omega arith, tt)))
+listed-8 R (plain (remove b)) x = (omega arith, (omega arith, tt))
 listed-8 R (plain (written a n)) x = (omega arith, (omega arith, (omega arith, (omega arith, tt))))
 listed-8 R (plain (ask a)) x = (omega arith, (omega arith, tt))
 listed-8 R (plain (valid w a n from)) x = (omega arith, tt)

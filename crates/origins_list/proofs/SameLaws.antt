@@ -1,7 +1,7 @@
 -- On the image of a list that carries what it should, each call of the form with origins does what the plain list of the form does.
 -- Assumes nothing.
 use mathlib.Core.Path.{_≡_, refl, sym, ap, _∙_}
-use mathlib.Core.Bool.{Bool, true, false, cond, not, _&&_, _||_}
+use mathlib.Core.Bool.{Bool, true, false, cond, not, _&&_, _||_, false≢true}
 use mathlib.Core.List.{List, _++_}
 use mathlib.Core.Option.{Option, none, some}
 use Prim.Native.Nat.{ℕ, zero, suc, _+_, _%_, _≤_}
@@ -13,13 +13,13 @@ use borrow.Author.Tests.{eqb-true, eqb-false}
 use Rattle.number.proofs.TestLaws.{Test, is-true, is-false, test, and-true}
 use Rattle.plain.specs.declared.Beginning.{Beginning}
 use Rattle.plain.specs.Block.{Block, len, startsWritten, startsLiteral, begun, contains, hasBase}
-use Rattle.plain.specs.Blocks.{find, any}
+use Rattle.plain.specs.Blocks.{find, found, any}
 use Rattle.plain.specs.Rules.{Rules, Sound, meets}
 use Rattle.plain.specs.Reading.{Reading, says, lookup}
 use Rattle.plain.specs.Ops.{Ops, readAny}
 use Rattle.plain.specs.Images.{Images}
 use Rattle.plain.specs.Call as base
-use Rattle.plain.specs.Call.{clear, begin, free, written, ask, valid, initialised, next, audit, place, Answer, number, refusal, done, yesNo, firstOf, unless, allows, byRules}
+use Rattle.plain.specs.Call.{clear, begin, free, remove, written, ask, valid, initialised, next, audit, place, Answer, number, refusal, done, yesNo, firstOf, unless, allows, byRules}
 use Rattle.plain.specs.PlainList.{byList, listAfter, listAnswer, plainStep}
 use Rattle.plain.specs.ShadowCalls.{isDamaged, inOne, lengthOf, byShadows, shadowsAfter, shadowAnswer, shadowStep}
 use Rattle.plain.proofs.FindLaws.{find-facts}
@@ -29,11 +29,12 @@ use Rattle.plain.proofs.ReadBackLaws.{image-reads}
 use Rattle.plain.proofs.SameLaws.{step-same}
 use Rattle.plain.proofs.AnswerLaws as shadows
 use Rattle.plain.proofs.RunLaws as lists
+use Rattle.plain.proofs.RunLaws.{free-accepted, remove-accepted}
 use Rattle.origins_list.specs.Call.{Call, plain, point, copy, live, isCell, isOrigin}
 use Rattle.origins_list.specs.CellOps.{CellOps}
 use Rattle.origins_list.specs.Cells.{Held, put, cellOf, CellImages}
 use Rattle.origins_list.specs.StateCalls.{State, originRead, isPointer, byState, cellsAfter, stateAfter, stateAnswer, stateStep}
-use Rattle.origins_list.specs.OriginList.{OriginList, originFound, originHeld, canPoint, byOrigins, originAfter, referentAfter, originsAfter, pointsInto, originAnswer, originStep}
+use Rattle.origins_list.specs.OriginList.{OriginList, originFound, originHeld, canPoint, byOrigins, withoutBlock, originAfter, referentAfter, originsAfter, pointsInto, originAnswer, originStep}
 use Rattle.origins_list.proofs.SpotLaws.{vacant, taken, hasFour, there, any-four, spot-base}
 use Rattle.origins_list.proofs.StepLaws.{Good, can-point}
 use Rattle.origins_list.proofs.CarriedLaws.{small-origin, small-referent}
@@ -97,29 +98,24 @@ module _ {S C : Type 0} (R : Rules) (G : Sound R) (O : Ops S) (image : List Bloc
     clear-same : stateStep R O X (plain clear) (view x) ≡ both (originStep R (plain clear) x)
     clear-same = plainly clear refl refl (λ z. sym (J .image-cleared))
 
-    -- the block of a base, by its reading
-    free-cells : (y : ℕ) → firstOf (byRules R (free (suc y)) ++ byList R (free (suc y)) (x .blocks)) ≡ 0
-        → cellsAfter R O X (plain (free (suc y))) (view x) ≡ cells (originAfter (plain (free (suc y))) x) (referentAfter (plain (free (suc y))) x)
-    free-cells y e =
-        ap (λ (r : Reading). X .zeroed (cells (x .origin) (x .referent)) (suc y) (lengthOf r)) (reads (suc y))
-        ∙ go (find (hasBase (suc y)) (x .blocks)) refl
+    -- the cells of the block of a base, by its reading
+    ends-cells : (y : ℕ) → any (hasBase y) (x .blocks) ≡ true
+        → X .zeroed (cells (x .origin) (x .referent)) y (lengthOf (readAny R O (image (x .blocks)) y))
+        ≡ cells (withoutBlock (find (hasBase y) (x .blocks)) (x .origin)) (withoutBlock (find (hasBase y) (x .blocks)) (x .referent))
+    ends-cells y e =
+        ap (λ (r : Reading). X .zeroed (cells (x .origin) (x .referent)) y (lengthOf r)) (reads y) ∙ go (find (hasBase y) (x .blocks)) refl e
       where
-        missing : (t : Bool) → _≡_ {A = ℕ} (cond (not t) 4 7) 0 → ⊥
-        missing true e = omega arith
-        missing false e = omega arith
-
-        go : (o : Option Block) → find (hasBase (suc y)) (x .blocks) ≡ o
-            → X .zeroed (cells (x .origin) (x .referent)) (suc y) (lengthOf (lookup (x .blocks) (suc y)))
-            ≡ cells (originAfter (plain (free (suc y))) x) (referentAfter (plain (free (suc y))) x)
-        go none q = absurd (missing (R .inside (suc y)) (rw q at e))
-        go (some d) q =
-            let s = spot-base R G (x .blocks) (g .placed) (suc y) d q in
-            let t = there R G (x .blocks) (g .placed) (suc y) (suc y) (len d) s in
-            let f = find-facts R G (x .blocks) 0 (hasBase (suc y)) d (g .placed) q in
-            let z : d .base ≡ suc y = eqb-true (d .base) (suc y) (f .so) in
-            rw (q, long (find (contains (suc y)) (x .blocks)) s, z) (J .image-zeroed (x .origin) (x .referent) (suc y) (len d) (t .some) (t .fits))
+        go : (o : Option Block) → find (hasBase y) (x .blocks) ≡ o → found o ≡ true
+            → X .zeroed (cells (x .origin) (x .referent)) y (lengthOf (lookup (x .blocks) y)) ≡ cells (withoutBlock o (x .origin)) (withoutBlock o (x .referent))
+        go none q e = absurd (false≢true e)
+        go (some d) q e =
+            let s = spot-base R G (x .blocks) (g .placed) y d q in
+            let t = there R G (x .blocks) (g .placed) y y (len d) s in
+            let f = find-facts R G (x .blocks) 0 (hasBase y) d (g .placed) q in
+            let z : d .base ≡ y = eqb-true (d .base) y (f .so) in
+            rw (long (find (contains y) (x .blocks)) s, z) (J .image-zeroed (x .origin) (x .referent) y (len d) (t .some) (t .fits))
           where
-            long : (o : Option Block) → ownOf (λ b a. taken (b .base) (len b)) vacant (suc y) o ≡ taken (suc y) (len d) → lengthOf (says (suc y) o) ≡ len d
+            long : (o : Option Block) → ownOf (λ b a. taken (b .base) (len b)) vacant y o ≡ taken y (len d) → lengthOf (says y o) ≡ len d
             long none e = absurd (let z : _≡_ {A = ℕ} 0 1 = cc in omega arith)
             long (some b) e = let z : len b ≡ len d = cc in z
 
@@ -173,7 +169,8 @@ module _ {S C : Type 0} (R : Rules) (G : Sound R) (O : Ops S) (image : List Bloc
     plain-same clear = clear-same
     plain-same (begin h b l) = begin-same h b l
     plain-same (free zero) = plainly (free zero) refl refl (λ z. refl)
-    plain-same (free (suc y)) = plainly (free (suc y)) refl refl (free-cells y)
+    plain-same (free (suc y)) = plainly (free (suc y)) refl refl (λ z. ends-cells (suc y) (free-accepted R y (x .blocks) z .2))
+    plain-same (remove y) = plainly (remove y) refl refl (λ z. ends-cells y (remove-accepted R y (x .blocks) z .1))
     plain-same (written a n) = plainly (written a n) refl refl (λ z. refl)
     plain-same (ask a) = plainly (ask a) refl refl (λ z. refl)
     plain-same (valid w a n from) = plainly (valid w a n from) refl refl (λ z. refl)

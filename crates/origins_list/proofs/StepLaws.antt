@@ -1,7 +1,7 @@
 -- Each call keeps what the plain list of this form carries, and what the history tells of it. Assumes nothing.
 use mathlib.Core.Path.{_≡_, refl, sym, _∙_, fun-ext}
 use mathlib.Core.Logic.{_≢_}
-use mathlib.Core.Bool.{Bool, true, false, cond, not, _&&_, _||_}
+use mathlib.Core.Bool.{Bool, true, false, cond, not, _&&_, _||_, false≢true}
 use mathlib.Core.List.{List, _∷_}
 use mathlib.Core.Option.{Option, none, some}
 use Prim.Native.Nat.{ℕ, zero, suc, _%_, _≤_, _<_}
@@ -11,18 +11,20 @@ use borrow.Author.Tests.{ne-eqb, leb-true, eqb-true, eqb-false}
 use Rattle.number.proofs.TestLaws.{Test, is-true, is-false, test, and-true, or-false, not-both}
 use Rattle.plain.specs.declared.Beginning.{Beginning}
 use Rattle.plain.specs.Block.{Block, len, startsLiteral, contains, holds, hasBase}
-use Rattle.plain.specs.Blocks.{find, any, remove, markAll}
+use Rattle.plain.specs.Blocks as blocks
+use Rattle.plain.specs.Blocks.{find, found, any, markAll}
 use Rattle.plain.specs.Rules.{Rules, Placed, Sound, meets}
 use Rattle.plain.specs.Call as base
-use Rattle.plain.specs.Call.{clear, begin, free, written, ask, valid, initialised, next, audit, place, number, firstOf, unless, allows}
+use Rattle.plain.specs.PlainList.{listAfter}
+use Rattle.plain.specs.Call.{clear, begin, free, remove, written, ask, valid, initialised, next, audit, place, number, firstOf, unless, allows}
 use Rattle.plain.proofs.LayerLaws.{ownOf}
 use Rattle.plain.proofs.ListLaws.{find-has}
 use Rattle.plain.proofs.KeptLaws.{remove-placed, marks-placed}
-use Rattle.plain.proofs.RunLaws.{Joins, begun-proper, keep-begin}
+use Rattle.plain.proofs.RunLaws.{Joins, begun-proper, free-accepted, remove-accepted, keep-begin}
 use Rattle.plain.proofs.RunLaws as lists
-use Rattle.origins_list.specs.Call.{Call, plain, point, copy, live, isCell, isOrigin, leaves, roleOf}
+use Rattle.origins_list.specs.Call.{Call, plain, point, copy, live, isCell, isOrigin, ends, leaves, roleOf}
 use Rattle.origins_list.specs.Cells.{put, cut}
-use Rattle.origins_list.specs.OriginList.{OriginList, originFound, originHeld, canPoint, byOrigins, originsAfter, originAnswer, originStep}
+use Rattle.origins_list.specs.OriginList.{OriginList, originFound, originHeld, canPoint, byOrigins, withoutBlock, originsAfter, originAnswer, originStep}
 use Rattle.origins_list.specs.History.{History}
 use Rattle.origins_list.proofs.SpotLaws.{Spot, vacant, taken, spot, spans, hasFour, without, there, any-four, spot-marks, spot-insert, spot-alone, spot-remove, spot-base}
 use Rattle.origins_list.proofs.KeepLaws.{Whole, Keeps, spans-true, keep-none, keep-put, keep-free}
@@ -154,19 +156,27 @@ module _ (R : Rules) (G : Sound R) where
         alone : (a : ℕ) → spans b l a ≡ true → s a ≡ vacant
         alone a t = let p = spans-true b l a t in spot-alone R G how b l (x .blocks) (g .placed) (j .joins) a (p .0) (p .1)
 
-    after-free : (y : ℕ) (d : Block) → find (hasBase (suc y)) (x .blocks) ≡ some d → After (plain (free (suc y))) x (originsAfter (plain (free (suc y))) x)
-    after-free y d e =
-        rw e (viewed (plain (free (suc y))) x (record { blocks = remove (suc y) (x .blocks); origin = cut (d .base) (len d) (x .origin); referent = cut (d .base) (len d) (x .referent); counter = x .counter })
-        (without (suc y) (len d) s) (spot-remove R G (suc y) d (x .blocks) (g .placed) e)
-        (remove-placed R G (suc y) (x .blocks) 0 (g .placed))
-        (rw z (keep-free s (x .origin) (x .referent) (x .counter) (suc y) (len d) W (g .keeps) stood))
-        (λ k o h T. rw z (tells-free k o h s (x .origin) (x .referent) (x .counter) T (free (suc y)) (suc y) (len d) refl W (g .keeps) stood)))
-      where
-        z : d .base ≡ suc y
-        z = eqb-true (d .base) (suc y) (find-has (hasBase (suc y)) (x .blocks) d e .1)
+    -- a block of the list ends
+    abbrev left : (base : ℕ) → Option Block → OriginList
+    left y o = record { blocks = blocks.remove y (x .blocks); origin = withoutBlock o (x .origin); referent = withoutBlock o (x .referent); counter = x .counter }
 
-        stood : s (suc y) ≡ taken (suc y) (len d)
-        stood = spot-base R G (x .blocks) (g .placed) (suc y) d e
+    after-end : (c : base.Call) (y : ℕ) → roleOf c ≡ ends y → listAfter c (x .blocks) ≡ blocks.remove y (x .blocks) → any (hasBase y) (x .blocks) ≡ true
+        → After (plain c) x (originsAfter (plain c) x)
+    after-end c y r l e = rw (r, l) (go (find (hasBase y) (x .blocks)) refl e)
+      where
+        go : (o : Option Block) → find (hasBase y) (x .blocks) ≡ o → found o ≡ true → After (plain c) x (left y o)
+        go none q e = absurd (false≢true e)
+        go (some d) q e =
+            viewed (plain c) x (left y (some d)) (without y (len d) s) (spot-remove R G y d (x .blocks) (g .placed) q)
+            (remove-placed R G y (x .blocks) 0 (g .placed))
+            (rw z (keep-free s (x .origin) (x .referent) (x .counter) y (len d) W (g .keeps) stood))
+            (λ k o h T. rw z (tells-free k o h s (x .origin) (x .referent) (x .counter) T c y (len d) r W (g .keeps) stood))
+          where
+            z : d .base ≡ y
+            z = eqb-true (d .base) y (find-has (hasBase y) (x .blocks) d q .1)
+
+            stood : s y ≡ taken y (len d)
+            stood = spot-base R G (x .blocks) (g .placed) y d q
 
     -- ---- each call, accepted
 
@@ -174,15 +184,8 @@ module _ (R : Rules) (G : Sound R) where
     after-plain clear e = after-clear
     after-plain (begin h b l) e = after-begin h b l (begins R h b l x e)
     after-plain (free zero) e = asked (free zero) refl
-    after-plain (free (suc y)) e = go (find (hasBase (suc y)) (x .blocks)) refl
-      where
-        go : (o : Option Block) → find (hasBase (suc y)) (x .blocks) ≡ o → After (plain (free (suc y))) x (originsAfter (plain (free (suc y))) x)
-        go none q = absurd (missing (R .inside (suc y)) (rw q at e))
-          where
-            missing : (t : Bool) → _≡_ {A = ℕ} (cond (not t) 4 7) 0 → ⊥
-            missing true e = omega arith
-            missing false e = omega arith
-        go (some d) q = after-free y d q
+    after-plain (free (suc y)) e = after-end (free (suc y)) (suc y) refl refl (free-accepted R y (x .blocks) e .2)
+    after-plain (remove y) e = after-end (remove y) y refl refl (remove-accepted R y (x .blocks) e .1)
     after-plain (written a n) e =
         viewed (plain (written a n)) x (marked (markAll a n (x .blocks))) s (λ b. spot-marks n a b (x .blocks)) (marks-placed R n a (x .blocks) 0 (g .placed)) (g .keeps)
         (λ k o h T. tells-plain k o h s (x .origin) (x .referent) (x .counter) T (written a n) refl)

@@ -11,7 +11,7 @@ use lib.Dec.{eqb}
 use borrow.Author.Tests.{eq-eqb, ne-eqb, eqb-true, eqb-false}
 use Rattle.number.proofs.TestLaws.{Test, is-true, is-false, test, and-false-r, not-both, false-of, eqb-same}
 use Rattle.plain.specs.Call as base
-use Rattle.origins_list.specs.Call.{Call, plain, point, copy, clears, begins, frees, leaves, roleOf, takesOrigin}
+use Rattle.origins_list.specs.Call.{Call, plain, point, copy, clears, begins, ends, leaves, roleOf, takesOrigin}
 use Rattle.origins_list.specs.Cells.{Held, empty, put, touches, cut}
 use Rattle.origins_list.specs.History.{History, Allocation, recordings, beginsAt, heldAfter, holder, placeOf, setAfter, setTo, same, judged}
 use Rattle.origins_list.proofs.SpotLaws.{Spot, vacant, taken, spans, hasFour, without}
@@ -138,7 +138,7 @@ module _ (k₀ : ℕ) (first : 1 ≤ k₀) (h : History) (s : ℕ → Spot) (f g
 
   -- ---- a block goes
 
-  module _ (c : base.Call) (x l : ℕ) (r : roleOf c ≡ frees x) (W : Whole s) (K : Keeps s f g k) (there : s x ≡ taken x l) where
+  module _ (c : base.Call) (x l : ℕ) (r : roleOf c ≡ ends x) (W : Whole s) (K : Keeps s f g k) (there : s x ≡ taken x l) where
     abbrev ended : Call × Bool
     ended = (plain c, true)
 

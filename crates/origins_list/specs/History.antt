@@ -7,7 +7,7 @@ use mathlib.Core.Option.{Option, none, some}
 use Prim.Native.Nat.{ℕ, suc, _+_}
 use lib.Dec.{leb, ltb, eqb}
 use lib.ListN.{length}
-use Rattle.origins_list.specs.Call.{Call, plain, point, copy, live, Role, clears, begins, frees, leaves, roleOf, takesOrigin}
+use Rattle.origins_list.specs.Call.{Call, plain, point, copy, live, Role, clears, begins, ends, leaves, roleOf, takesOrigin}
 
 -- the calls made so far, the latest first, each with whether it was accepted. A call's place is the number of calls before it
 abbrev pub History : Type 0
@@ -31,11 +31,11 @@ recordings (e ∷ h) = cond (takesOrigin (e .0) && e .1) (suc (recordings h)) (r
 -- ---- which allocation is live and holds an address
 
 -- after an accepted call at a place, where `held` was the live allocation that held address a before it: clear ends all, a recording at base b of
--- l bytes begins one, free of its base ends it
+-- l bytes begins one, free or remove of its base ends it
 abbrev pub heldBy : Role → (place : ℕ) → (held : Option Allocation) → (a : ℕ) → Option Allocation
 heldBy clears p held a = none
 heldBy (begins b l) p held a = cond (leb b a && ltb a (b + l)) (some (record { place = p; base = b })) held
-heldBy (frees x) p held a = cond (beginsAt x held) none held
+heldBy (ends x) p held a = cond (beginsAt x held) none held
 heldBy leaves p held a = held
 
 abbrev pub heldAfter : Call → (place : ℕ) → (held : Option Allocation) → (a : ℕ) → Option Allocation
@@ -57,12 +57,12 @@ placeOf none = none
 placeOf (some n) = some (n .place)
 
 -- after an accepted call, where `held` tells the live allocation that held an address before it and `set` the allocation that the pointer in a
--- cell was set to: clear unsets all, free those in the allocation that it ends; kind 11 sets the cell to the live allocation that holds the
+-- cell was set to: clear unsets all, free and remove those in the allocation that they end; kind 11 sets the cell to the live allocation that holds the
 -- address, or to none; kind 12 sets it as another is set
 abbrev pub setBy : Role → (held : ℕ → Option Allocation) → (set : ℕ → Option ℕ) → (c : ℕ) → Option ℕ
 setBy clears held set c = none
 setBy (begins b l) held set c = set c
-setBy (frees x) held set c = cond (beginsAt x (held c)) none (set c)
+setBy (ends x) held set c = cond (beginsAt x (held c)) none (set c)
 setBy leaves held set c = set c
 
 abbrev pub setAfter : Call → (held : ℕ → Option Allocation) → (set : ℕ → Option ℕ) → (c : ℕ) → Option ℕ

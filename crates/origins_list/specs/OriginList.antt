@@ -11,7 +11,7 @@ use Rattle.plain.specs.Blocks.{find, any}
 use Rattle.plain.specs.Rules.{Rules}
 use Rattle.plain.specs.Call.{Answer, done, yesNo, Refusal, firstOf, unless, byRules}
 use Rattle.plain.specs.PlainList.{byList, listAfter, listAnswer}
-use Rattle.origins_list.specs.Call.{Call, plain, point, copy, live, isCell, Role, clears, begins, frees, leaves, roleOf, unaligned, usedUp}
+use Rattle.origins_list.specs.Call.{Call, plain, point, copy, live, isCell, Role, clears, begins, ends, leaves, roleOf, unaligned, usedUp}
 use Rattle.origins_list.specs.Cells.{Held, empty, put, cut}
 use Rattle.origins_list.specs.StateCalls.{counterAfter}
 
@@ -68,7 +68,7 @@ withoutBlock (some b) f = cut (b .base) (len b) f
 abbrev pub originBy : Role → OriginList → Held
 originBy clears x = empty
 originBy (begins b l) x = put b (x .counter) (x .origin)
-originBy (frees b) x = withoutBlock (find (hasBase b) (x .blocks)) (x .origin)
+originBy (ends b) x = withoutBlock (find (hasBase b) (x .blocks)) (x .origin)
 originBy leaves x = x .origin
 
 abbrev pub originAfter : Call → OriginList → Held
@@ -81,7 +81,7 @@ originAfter (live c a) x = x .origin
 abbrev pub referentBy : Role → OriginList → Held
 referentBy clears x = empty
 referentBy (begins b l) x = x .referent
-referentBy (frees b) x = withoutBlock (find (hasBase b) (x .blocks)) (x .referent)
+referentBy (ends b) x = withoutBlock (find (hasBase b) (x .blocks)) (x .referent)
 referentBy leaves x = x .referent
 
 abbrev pub referentAfter : Call → OriginList → Held

@@ -9,7 +9,7 @@ use Rattle.plain.specs.Reading.{Reading, nothing, block, damaged}
 use Rattle.plain.specs.Ops.{Ops, readAny}
 use Rattle.plain.specs.Call.{Answer, done, yesNo, Refusal, firstOf, unless, byRules}
 use Rattle.plain.specs.ShadowCalls.{isDamaged, inOne, lengthOf, byShadows, shadowsAfter, shadowAnswer}
-use Rattle.origins_list.specs.Call.{Call, plain, point, copy, live, isCell, Role, clears, begins, frees, leaves, roleOf, unaligned, usedUp, takesOrigin}
+use Rattle.origins_list.specs.Call.{Call, plain, point, copy, live, isCell, Role, clears, begins, ends, leaves, roleOf, unaligned, usedUp, takesOrigin}
 use Rattle.origins_list.specs.CellOps.{CellOps}
 
 -- the block shadows, the cells, and the counter: the origin of the next block
@@ -57,11 +57,11 @@ module _ {S C : Type 0} (R : Rules) (O : Ops S) (X : CellOps C) where
   shadowsOf (live c a) x = x .shadows
 
   -- the cells after an accepted call: "recording stores it in the cell of the block's base as the origin", "clear zeroes all cells", "Freeing
-  -- zeroes each cell that touches the block"
+  -- zeroes each cell that touches the block", and S-7's remove as free
   abbrev pub cellsBy : Role → State S C → C
   cellsBy clears x = X .cleared
   cellsBy (begins b l) x = X .setOrigin (x .cells) b (x .counter)
-  cellsBy (frees b) x = X .zeroed (x .cells) b (lengthOf (read x b))
+  cellsBy (ends b) x = X .zeroed (x .cells) b (lengthOf (read x b))
   cellsBy leaves x = x .cells
 
   abbrev pub cellsAfter : Call → State S C → C

@@ -8,8 +8,9 @@ use map::Map;
 use monitor_base::Update;
 use origins_base::Counted;
 use origins_counted::clear;
-use origins_counted::free;
 use origins_counted::written;
+use origins_ended::free;
+use origins_ended::remove;
 use origins_record::begin;
 
 pub fn update_step(
@@ -49,6 +50,16 @@ pub fn update_step(
             how,
         ),
         Update::Free(base) => free(
+            map,
+            heap,
+            primary,
+            secondary,
+            heap_cells,
+            stack_cells,
+            counter,
+            base,
+        ),
+        Update::Remove(base) => remove(
             map,
             heap,
             primary,

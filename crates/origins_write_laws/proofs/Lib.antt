@@ -1,4 +1,4 @@
 pub mod NumberLaws
 pub mod RecordLaws
 pub mod ClearLaws
-pub mod FreeLaws
+pub mod EndLaws

@@ -8,7 +8,7 @@ use Rattle.plain.specs.Rules.{Rules}
 use Rattle.plain.specs.Reading.{Reading, nothing, block, damaged, Tally, tally}
 use Rattle.plain.specs.Gaps.{Gap}
 use Rattle.plain.specs.Ops.{Ops}
-use Rattle.plain.specs.Call.{Call, clear, begin, free, written, ask, valid, initialised, next, audit, place, number}
+use Rattle.plain.specs.Call.{Call, clear, begin, free, remove, written, ask, valid, initialised, next, audit, place, number}
 use Rattle.plain.specs.Placing.{lookedAt, chosen, placeOf, placeAnswer}
 use Rattle.plain.specs.ShadowCalls.{askAnswer, nextAnswer, auditAnswer, reading, search, shadowAnswer}
 
@@ -23,6 +23,7 @@ pub accepted-0 : {S : Type 0} (R : Rules) (O : Ops S) (c : Call) (s : S) → num
 accepted-0 R O clear s = refl
 accepted-0 R O (begin h b l) s = refl
 accepted-0 R O (free x) s = refl
+accepted-0 R O (remove x) s = refl
 accepted-0 R O (written a n) s = refl
 accepted-0 R O (ask a) s = go (reading R O s a)
   where

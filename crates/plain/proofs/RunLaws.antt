@@ -13,10 +13,10 @@ use Rattle.number.specs.Parts.{Each}
 use Rattle.number.proofs.TestLaws.{Test, is-true, is-false, test, and-true, not-both, false-of}
 use Rattle.plain.specs.declared.Beginning.{Beginning}
 use Rattle.plain.specs.declared.Beginning.the-variants.{Unwritten, Written, Literal}
-use Rattle.plain.specs.Block.{Block, len, startsWritten, startsLiteral, begun, contains}
+use Rattle.plain.specs.Block.{Block, len, startsWritten, startsLiteral, begun, contains, hasBase}
 use Rattle.plain.specs.Blocks.{find, any, insert}
 use Rattle.plain.specs.Rules.{Rules, Proper, Placed, Sound, meets}
-use Rattle.plain.specs.Call.{Call, clear, begin, free, written, ask, valid, initialised, next, audit, place, Answer, number, Refusal, firstOf, unless, allows, byRules}
+use Rattle.plain.specs.Call.{Call, clear, begin, free, remove, written, ask, valid, initialised, next, audit, place, Answer, number, Refusal, firstOf, unless, allows, isStack, byRules}
 use Rattle.plain.specs.PlainList.{byList, listAfter, listAnswer, askOf, nextOf, plainStep}
 use Rattle.plain.specs.Run.{run}
 use Rattle.plain.proofs.KeptLaws.{insert-placed, remove-placed, marks-placed}
@@ -52,6 +52,26 @@ begin-joins R h b l bs = go (test (eqb l 0)) (test (allows R h b l)) (test (R .a
         let t = and-true (R .fits b l) (not (startsLiteral h && R .heap b)) f in
         record { some = omega arith; fits = t .0; aligned = a; alone = m; proper = begun-proper R h b l (t .1) }
 
+-- an accepted free, but of 0, is of a heap block's base, an accepted remove of a stack block's
+pub free-accepted : (R : Rules) (x : ℕ) (bs : List Block) → firstOf (byRules R (free (suc x)) ++ byList R (free (suc x)) bs) ≡ 0
+    → (R .inside (suc x) ≡ true) × (isStack R (suc x) ≡ false) × (any (hasBase (suc x)) bs ≡ true)
+free-accepted R x bs = go (R .inside (suc x)) (isStack R (suc x)) (any (hasBase (suc x)) bs)
+  where
+    go : (i s b : Bool) → _≡_ {A = ℕ} (cond (not i) 4 (cond s 15 (cond (not b) 7 0))) 0 → (i ≡ true) × (s ≡ false) × (b ≡ true)
+    go true false true e = (refl, refl, refl)
+    go true false false e = absurd (omega arith)
+    go true true b e = absurd (omega arith)
+    go false s b e = absurd (omega arith)
+
+pub remove-accepted : (R : Rules) (x : ℕ) (bs : List Block) → firstOf (byRules R (remove x) ++ byList R (remove x) bs) ≡ 0
+    → (isStack R x ≡ true) × (any (hasBase x) bs ≡ true)
+remove-accepted R x bs = go (isStack R x) (any (hasBase x) bs)
+  where
+    go : (s b : Bool) → _≡_ {A = ℕ} (cond (not s) 4 (cond (not b) 7 0)) 0 → (s ≡ true) × (b ≡ true)
+    go true true e = (refl, refl)
+    go true false e = absurd (omega arith)
+    go false b e = absurd (omega arith)
+
 module _ (R : Rules) (G : Sound R) where
   pub keep-begin : (h : Beginning) (b l : ℕ) (bs : List Block) → Placed R 0 bs → Joins R h b l bs → Placed R 0 (insert (begun h b l) bs)
   keep-begin h b l bs P j =
@@ -63,6 +83,7 @@ module _ (R : Rules) (G : Sound R) where
   keep-after (begin h b l) bs P e = keep-begin h b l bs P (begin-joins R h b l bs e)
   keep-after (free zero) bs P e = P
   keep-after (free (suc x)) bs P e = remove-placed R G (suc x) bs 0 P
+  keep-after (remove x) bs P e = remove-placed R G x bs 0 P
   keep-after (written a n) bs P e = marks-placed R n a bs 0 P
   keep-after (ask a) bs P e = P
   keep-after (valid w a n from) bs P e = P
@@ -96,7 +117,8 @@ listed-8 : (R : Rules) (c : Call) (bs : List Block) → No8 (byRules R c ++ byLi
 listed-8 R clear bs = tt
 listed-8 R (begin h b l) bs = (omega arith, (omega arith, (omega arith, (omega arith, tt))))
 listed-8 R (free zero) bs = tt
-listed-8 R (free (suc x)) bs = (omega arith, (omega arith, tt))
+listed-8 R (free (suc x)) bs = (omega arith, (omega arith, (omega arith, tt)))
+listed-8 R (remove x) bs = (omega arith, (omega arith, tt))
 listed-8 R (written a n) bs = (omega arith, (omega arith, (omega arith, (omega arith, tt))))
 listed-8 R (ask a) bs = (omega arith, (omega arith, tt))
 listed-8 R (valid w a n from) bs = (omega arith, tt)
@@ -110,6 +132,7 @@ pub accepted-0 : (R : Rules) (c : Call) (bs : List Block) → number (listAnswer
 accepted-0 R clear bs = refl
 accepted-0 R (begin h b l) bs = refl
 accepted-0 R (free x) bs = refl
+accepted-0 R (remove x) bs = refl
 accepted-0 R (written a n) bs = refl
 accepted-0 R (ask a) bs = go (find (contains a) bs)
   where

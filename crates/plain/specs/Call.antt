@@ -14,8 +14,10 @@ pub data Call : Type 0 where
   clear : Call
   -- a block begins: no byte counts as written, every byte does, or it is a literal
   begin : (how : Beginning) (base length : ℕ) → Call
-  -- address 0, C's null pointer, is accepted and changes nothing
+  -- a block of the heap ends; address 0, C's null pointer, is accepted and changes nothing
   free : (base : ℕ) → Call
+  -- S-7, "one call more": a block of the stack ends
+  remove : (base : ℕ) → Call
   written : (address n : ℕ) → Call
   ask : (address : ℕ) → Call
   -- may the bytes be read; with `write`, may they be written as well
@@ -78,12 +80,17 @@ unless (suc k) s r = (s, refusal (suc k))
 abbrev pub allows : Rules → (how : Beginning) (base length : ℕ) → Bool
 allows R h b l = R .fits b l && not (startsLiteral h && R .heap b)
 
--- 3, 4 and 5, which follow from arguments and map
+-- an address of the stack
+abbrev pub isStack : Rules → ℕ → Bool
+isStack R a = R .inside a && not (R .heap a)
+
+-- 3, 4, 5 and 15, which follow from arguments and map
 abbrev pub byRules : Rules → Call → List Refusal
 byRules R clear = []
 byRules R (begin h b l) = (3, eqb l 0) ∷ (4, not (allows R h b l)) ∷ (5, not (R .aligned b)) ∷ []
 byRules R (free zero) = []
-byRules R (free (suc x)) = (4, not (R .inside (suc x))) ∷ []
+byRules R (free (suc x)) = (4, not (R .inside (suc x))) ∷ (15, isStack R (suc x)) ∷ []
+byRules R (remove x) = (4, not (isStack R x)) ∷ []
 byRules R (written a n) = (3, eqb n 0) ∷ (4, not (R .inside a)) ∷ []
 byRules R (ask a) = (4, not (R .inside a)) ∷ []
 byRules R (valid w a n from) = (3, eqb n 0) ∷ []

@@ -7,10 +7,10 @@ use Prim.Native.Nat.{ℕ, zero, suc, _-_}
 use lib.Dec.{leb}
 use Rattle.number.specs.Bits.{bit}
 use Rattle.plain.specs.Block.{Block, len, begun, contains, holds, hasBase, isWritten, allWritten}
-use Rattle.plain.specs.Blocks.{find, any, insert, remove, markAll, count, live}
+use Rattle.plain.specs.Blocks.{find, any, insert, markAll, count, live}
 use Rattle.plain.specs.Blocks as blocks
 use Rattle.plain.specs.Rules.{Rules, meets}
-use Rattle.plain.specs.Call.{Call, clear, begin, free, written, ask, valid, initialised, next, audit, place, Answer, answer, done, yesNo, Refusal, firstOf, unless, byRules}
+use Rattle.plain.specs.Call.{Call, clear, begin, free, remove, written, ask, valid, initialised, next, audit, place, Answer, answer, done, yesNo, Refusal, firstOf, unless, byRules}
 use Rattle.plain.specs.Placing.{noneFits, placeAnswer}
 
 -- the refusals that the live blocks decide: 6 where footprints meet, 7 where there is no such block, 13 where it is a literal, 14 where
@@ -19,6 +19,7 @@ abbrev pub byList : Rules → Call → List Block → List Refusal
 byList R (begin h b l) bs = (6, any (meets R b l) bs) ∷ []
 byList R (free zero) bs = []
 byList R (free (suc x)) bs = (7, not (any (hasBase (suc x)) bs)) ∷ []
+byList R (remove x) bs = (7, not (any (hasBase x) bs)) ∷ []
 byList R (written a n) bs = (7, not (any (holds a n) bs)) ∷ (13, any (λ b. holds a n b && b .literal) bs) ∷ []
 byList R (ask a) bs = (7, not (any (contains a) bs)) ∷ []
 byList R (next a) bs = (7, not (any (λ b. leb a (b .base)) bs)) ∷ []
@@ -33,7 +34,8 @@ abbrev pub listAfter : Call → List Block → List Block
 listAfter clear bs = []
 listAfter (begin h b l) bs = insert (begun h b l) bs
 listAfter (free zero) bs = bs
-listAfter (free (suc x)) bs = remove (suc x) bs
+listAfter (free (suc x)) bs = blocks.remove (suc x) bs
+listAfter (remove x) bs = blocks.remove x bs
 listAfter (written a n) bs = markAll a n bs
 listAfter (ask a) bs = bs
 listAfter (valid w a n from) bs = bs
@@ -57,6 +59,7 @@ abbrev pub listAnswer : Rules → Call → List Block → Answer
 listAnswer R clear bs = done
 listAnswer R (begin h b l) bs = done
 listAnswer R (free x) bs = done
+listAnswer R (remove x) bs = done
 listAnswer R (written a n) bs = done
 listAnswer R (ask a) bs = askOf a (find (contains a) bs)
 listAnswer R (valid w a n from) bs = yesNo (any (λ b. holds a n b && contains from b && not (w && b .literal)) bs)

@@ -9,7 +9,7 @@ use Rattle.plain.specs.Block.{begun}
 use Rattle.plain.specs.Rules.{Rules}
 use Rattle.plain.specs.Reading.{Reading, nothing, block, damaged, Tally, tally}
 use Rattle.plain.specs.Ops.{Ops, markRange, rangeMarked, readAny}
-use Rattle.plain.specs.Call.{Call, clear, begin, free, written, ask, valid, initialised, next, audit, place, Answer, answer, done, yesNo, Refusal, firstOf, unless, byRules}
+use Rattle.plain.specs.Call.{Call, clear, begin, free, remove, written, ask, valid, initialised, next, audit, place, Answer, answer, done, yesNo, Refusal, firstOf, unless, byRules}
 use Rattle.plain.specs.Placing.{noneFits, placeAnswer}
 
 -- ---- what a reading says
@@ -97,13 +97,22 @@ module _ {S : Type 0} (R : Rules) (O : Ops S) where
   abbrev pub search : S → ℕ → Reading
   search s a = climb (reading s) a (R .top - a)
 
+  -- free and remove end a block that is to have this base: 8 where the reading there is damaged, 7 where it is not a block's first byte
+  abbrev pub byBase : S → ℕ → List Refusal
+  byBase s x = (8, isDamaged (reading s x)) ∷ (7, not (isFirst (reading s x))) ∷ []
+
+  -- else its place becomes zero
+  abbrev pub erased : S → ℕ → S
+  erased s x = O .erase s x (lengthOf (reading s x))
+
   -- the refusals that the shadows decide: 6 where the place is not zero, 8 where a reading is damaged, 7 where there is no such block, 13
   -- where it is a literal, 14 where no gap looked at fits. 8 is tried before 7, which is never given where 8 holds
   abbrev pub byShadows : Call → S → List Refusal
   byShadows clear s = []
   byShadows (begin h b l) s = (6, not (O .vacant s b l)) ∷ []
   byShadows (free zero) s = []
-  byShadows (free (suc x)) s = (8, isDamaged (reading s (suc x))) ∷ (7, not (isFirst (reading s (suc x)))) ∷ []
+  byShadows (free (suc x)) s = byBase s (suc x)
+  byShadows (remove x) s = byBase s x
   byShadows (written a n) s = (8, isDamaged (reading s a)) ∷ (7, not (inOne n (reading s a))) ∷ (13, isLiteral (reading s a)) ∷ []
   byShadows (ask a) s = (8, isDamaged (reading s a)) ∷ (7, not (isBlock (reading s a))) ∷ []
   byShadows (valid w a n from) s = (8, isDamaged (reading s a) || isDamaged (reading s from)) ∷ []
@@ -117,7 +126,8 @@ module _ {S : Type 0} (R : Rules) (O : Ops S) where
   shadowsAfter clear s = O .cleared
   shadowsAfter (begin h b l) s = O .stamp s (begun h b l)
   shadowsAfter (free zero) s = s
-  shadowsAfter (free (suc x)) s = O .erase s (suc x) (lengthOf (reading s (suc x)))
+  shadowsAfter (free (suc x)) s = erased s (suc x)
+  shadowsAfter (remove x) s = erased s x
   shadowsAfter (written a n) s = markRange O s a n
   shadowsAfter (ask a) s = s
   shadowsAfter (valid w a n from) s = s
@@ -131,6 +141,7 @@ module _ {S : Type 0} (R : Rules) (O : Ops S) where
   shadowAnswer clear s = done
   shadowAnswer (begin h b l) s = done
   shadowAnswer (free x) s = done
+  shadowAnswer (remove x) s = done
   shadowAnswer (written a n) s = done
   shadowAnswer (ask a) s = askAnswer (reading s a)
   shadowAnswer (valid w a n from) s = yesNo (inOne n (reading s a) && sameBlock (reading s a) (reading s from) && not (w && isLiteral (reading s a)))

@@ -16,12 +16,13 @@ use Rattle.demands.proofs.Literals.{read-exactly, write-exactly, written-refuse
 use Rattle.demands.proofs.LiteralBits.{bit-one, audit-wants}
 use Rattle.demands.proofs.LiteralBegun.{literal-answers, literal-bytes, literal-elsewhere}
 use Rattle.demands.proofs.Places as places
-use Rattle.demands.proofs.Samples.{samples-hold, literal-samples-hold, place-samples-hold, damage-samples-hold}
+use Rattle.demands.proofs.Removals as removals
+use Rattle.demands.proofs.Samples.{samples-hold, literal-samples-hold, place-samples-hold, removal-samples-hold, damage-samples-hold}
 use Rattle.demands.proofs.MapSamples.{map-samples-hold}
 use Rattle.demands_origins.proofs.Demand1 as origins
 use Rattle.demands_origins.proofs.Demand3 as origins-runs
 use Rattle.demands_origins.proofs.PlainKinds.{plain-numbers, plain-accepted, audit-plain}
-use Rattle.demands_origins.proofs.Alters.{record-stores, free-zeroes-cells, clear-zeroes-cells, counter-left, cells-left, shadows-left, cell-lengths-kept, point-refers, copy-refers, live-told}
+use Rattle.demands_origins.proofs.Alters.{record-stores, free-zeroes-cells, remove-zeroes-cells, clear-zeroes-cells, counter-left, cells-left, shadows-left, cell-lengths-kept, point-refers, copy-refers, live-told}
 use Rattle.demands_origins.proofs.Demand3.{stays-carried, reached-carries, cells-hold}
 use Rattle.demands_origins.proofs.Judged.{history-each-call, judged-by-history, counter-counts}
 use Rattle.demands_origins.proofs.Samples as origins-samples
@@ -94,6 +95,7 @@ promises =
       audit-plain = audit-plain;
       record-stores = record-stores;
       free-zeroes-cells = free-zeroes-cells;
+      remove-zeroes-cells = remove-zeroes-cells;
       clear-zeroes-cells = clear-zeroes-cells;
       counter-left = counter-left;
       cells-left = cells-left;
@@ -131,9 +133,17 @@ promises =
       larger-budget = places.larger-budget;
       placed-recorded = places.placed-recorded;
       on-its-own-image = places.on-its-own-image;
+      free-of-stack = removals.free-of-stack;
+      remove-elsewhere = removals.remove-elsewhere;
+      free-by-reading = removals.free-by-reading;
+      remove-by-reading = removals.remove-by-reading;
+      each-its-area = removals.each-its-area;
+      free-exactly = removals.free-exactly;
+      remove-exactly = removals.remove-exactly;
       samples-hold = samples-hold;
       literal-samples-hold = literal-samples-hold;
       place-samples-hold = place-samples-hold;
+      removal-samples-hold = removal-samples-hold;
       map-samples-hold = map-samples-hold;
       damage-samples-hold = damage-samples-hold;
       same-run = same-run;

@@ -13,15 +13,17 @@ use Rattle.demands.specs.Begun.{AnswersOfRecord, RecordThenWritten, ListThenWri
 use Rattle.demands.specs.Null.{NullOutside, NoBlockAtNull, FreeOfNull, FreeOutside}
 use Rattle.demands.specs.Literals.{ReadExactly, WriteExactly, BitOne, AuditWants, WrittenRefused, LiteralStays, LiteralAnswers, LiteralBytes, LiteralElsewhere}
 use Rattle.demands.specs.Places.{GapsExactly, GapsCounted, WholeSegments, PlaceChooses, PlaceRefused, LargerBudget, PlacedRecorded, OnItsOwnImage}
+use Rattle.demands.specs.Removals.{FreeOfStack, RemoveElsewhere, RemoveByReading, FreeByReading, EachItsArea, FreeExactly, RemoveExactly}
 use Rattle.demands.specs.Samples.{SamplesHold}
 use Rattle.demands.specs.LiteralSamples.{LiteralSamplesHold}
 use Rattle.demands.specs.PlaceSamples.{PlaceSamplesHold}
+use Rattle.demands.specs.RemovalSamples.{RemovalSamplesHold}
 use Rattle.demands.specs.MapSamples.{MapSamplesHold}
 use Rattle.demands.specs.DamageSamples.{DamageSamplesHold}
 use Rattle.demands_origins.specs.Demand1 as origins
 use Rattle.demands_origins.specs.Demand3 as origins-runs
 use Rattle.demands_origins.specs.PlainKinds.{PlainNumbers, PlainAccepted, AuditPlain}
-use Rattle.demands_origins.specs.Alters.{RecordStores, FreeZeroesCells, ClearZeroesCells, CounterLeft, CellsLeft, ShadowsLeft, CellLengthsKept, PointRefers, CopyRefers, LiveTold}
+use Rattle.demands_origins.specs.Alters.{RecordStores, FreeZeroesCells, RemoveZeroesCells, ClearZeroesCells, CounterLeft, CellsLeft, ShadowsLeft, CellLengthsKept, PointRefers, CopyRefers, LiveTold}
 use Rattle.demands_origins.specs.Demand3.{StaysCarried, ReachedCarries, CellsHold}
 use Rattle.demands_origins.specs.Judged.{HistoryEachCall, JudgedByHistory, CounterCounts}
 use Rattle.demands_origins.specs.Samples as origins-samples
@@ -44,7 +46,8 @@ pub record Promises : Type 0 where
   pub questions-alter-nothing : QuestionsAlterNothing
   -- every call leaves each shadow as long as it was (Alters.antt)
   pub lengths-kept : LengthsKept
-  -- where they are accepted, record alters the bytes of the place alone, free zeroes them, and written changes written bits alone
+  -- where they are accepted, record alters the bytes of the place alone, free zeroes them (remove: S-7 below), and written changes written bits
+  -- alone
   pub record-stamps : RecordStamps
   pub free-zeroes : FreeZeroes
   pub written-marks : WrittenMarks
@@ -64,13 +67,13 @@ pub record Promises : Type 0 where
   pub by-the-table : ByTheTable
   -- accepted, with number 0, exactly if no row holds
   pub accepted-exactly : AcceptedExactly
-  -- the lowest number wins
+  -- the lowest number wins, but 8 before 7, and 15, where free is of a stack address, before both
   pub lowest-wins : LowestWins
   -- a number other than 0 is that of a row that holds
   pub its-row-holds : ItsRowHolds
   -- 7 never where 8 holds
   pub seven-without-eight : SevenWithoutEight
-  -- damage is reported by number 8: nothing else is, and it always is where no lower number comes first
+  -- damage is reported by number 8: nothing else is, and it always is where none of 1, 2, 3, 4 and 15 comes first
   pub eight-only-there : EightOnlyThere
   pub eight-there : EightThere
   -- ---- Demand 2: readings, images, audit, the list read back (Demand2.antt)
@@ -132,7 +135,8 @@ pub record Promises : Type 0 where
   -- ---- S-4: the form with origins (crates/demands_origins/specs). Its call is on block shadows, cells and counter
 
   -- demand 1, of every call on every input: a refusal has zero fields and alters no byte of shadows and cells, and not the counter; the number is
-  -- that of the first row of the table that holds; accepted exactly if none does; the lowest wins (Demand1.antt, Numbers.antt)
+  -- that of the first row of the table that holds; accepted exactly if none does; the lowest wins, but 8 before 7 and 15 before both (Demand1.antt,
+  -- Numbers.antt)
   pub origins-refused-alters-nothing : origins.RefusedAltersNothing
   pub origins-by-the-table : origins.ByTheTable
   pub origins-accepted-exactly : origins.AcceptedExactly
@@ -146,6 +150,7 @@ pub record Promises : Type 0 where
   -- what each call alters of cells and counter, byte by byte, on any bytes, and what kind 13 answers there (Alters.antt)
   pub record-stores : RecordStores
   pub free-zeroes-cells : FreeZeroesCells
+  pub remove-zeroes-cells : RemoveZeroesCells
   pub clear-zeroes-cells : ClearZeroesCells
   pub counter-left : CounterLeft
   pub cells-left : CellsLeft
@@ -183,7 +188,7 @@ pub record Promises : Type 0 where
   pub bit-one : BitOne
   -- audit wants it equal over a block, and each byte written where it is set
   pub audit-wants : AuditWants
-  -- written into a literal is 13, after 3 and 7, whatever the bytes; and on every image no call but clear and free of its base ends or alters one
+  -- written into a literal is 13, after 3 and 7, whatever the bytes; and on every image no call but clear and remove of its base ends or alters one
   pub written-refused : WrittenRefused
   pub literal-stays : LiteralStays
   -- at a stack base kind 14 answers as kind 10 and leaves its bytes with 2 added to each primary byte of the block; elsewhere it is 3 or 4
@@ -207,7 +212,22 @@ pub record Promises : Type 0 where
   pub placed-recorded : PlacedRecorded
   -- the plain list goes by its blocks' places, which are the gaps of its own image
   pub on-its-own-image : OnItsOwnImage
-  -- ---- samples (Samples.antt, LiteralSamples.antt, PlaceSamples.antt, MapSamples.antt, DamageSamples.antt, ByteSamples.antt)
+  -- ---- S-7: only heap blocks may be freed (Removals.antt). Remove is a call of the statements above too: the table of refusals, runs, the form with
+  -- origins, its history and its cells
+
+  -- free of every stack address is 15, remove of every address outside the stack 4, whatever the bytes, and on the plain list
+  pub free-of-stack : FreeOfStack
+  pub remove-elsewhere : RemoveElsewhere
+  -- free of a heap address, and remove of a stack address, is 8 where the reading is damaged, 7 where it is not a block's first byte, else it zeroes the
+  -- shadow of that block, in the heap with its header, and alters nothing else, for any bytes
+  pub free-by-reading : FreeByReading
+  pub remove-by-reading : RemoveByReading
+  -- free alters no primary and no secondary byte, remove none of the heap, on any input
+  pub each-its-area : EachItsArea
+  -- on every image free is accepted exactly at 0 and at the base of a heap block, remove exactly at the base of a stack block
+  pub free-exactly : FreeExactly
+  pub remove-exactly : RemoveExactly
+  -- ---- samples (Samples.antt, LiteralSamples.antt, PlaceSamples.antt, RemovalSamples.antt, MapSamples.antt, DamageSamples.antt, ByteSamples.antt)
 
   -- the marked samples, the worked example, edges, blocks that begin written, and numbers above 255
   pub samples-hold : SamplesHold
@@ -215,6 +235,8 @@ pub record Promises : Type 0 where
   pub literal-samples-hold : LiteralSamplesHold
   -- place: the choice, the count, the surplus, every byte of a segment, numbers of 32 bits
   pub place-samples-hold : PlaceSamplesHold
+  -- free and remove in both areas
+  pub removal-samples-hold : RemovalSamplesHold
   -- each rule of a map broken alone and at its edge, and each length of a shadow
   pub map-samples-hold : MapSamplesHold
   -- each clause of "damaged if", every byte of the numbers, what each call makes of damage, and bytes that do not agree
@@ -246,7 +268,7 @@ pub record Promises : Type 0 where
 
   -- a line has the kind of its record, whose length is the one that it says
   pub kinds-told : KindsTold
-  -- what each plain kind decodes to, by its fields, S-5's 14 and 15 among them, and of which length
+  -- what each plain kind decodes to, by its fields, S-5's 14 and 15 and S-7's 16 among them, and of which length
   pub kinds-decode : KindsDecode
   -- only in the form with origins do kinds 11 to 13 decode, 12 bytes each, and every other record as in the plain program
   pub own-kinds : OwnKinds

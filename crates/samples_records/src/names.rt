@@ -31,6 +31,7 @@ fn changing(found: Named, line: &[u8]) -> Named
     found = or(found, line, b"record_written", 10);
     found = or(found, line, b"record_literal", 14);
     found = or(found, line, b"free", 3);
+    found = or(found, line, b"remove", 16);
     or(found, line, b"written", 4)
 }
 

@@ -8,7 +8,7 @@ use crate::program::{encode, encode_map, LARGEST_HEAP, LARGEST_STACK};
 use crate::random::Random;
 
 /// The last kind of either form; the plain one does not know 11 to 13.
-const LAST_KIND: u16 = 15;
+const LAST_KIND: u16 = 16;
 
 /// An input file with at most so many records before its end.
 pub fn file(random: &mut Random, records: u64) -> Vec<u8> {
@@ -98,7 +98,8 @@ pub(crate) fn spoil(random: &mut Random, input: &mut Vec<u8>) {
         3 => {
             let length = random.pick(&[0, 1, 2, 3, 4, 5, 7, 9, 13, u16::MAX]);
             input.extend(length.to_le_bytes());
-            input.extend(random.pick(&[2u16, 3, 9, 10, 14, LAST_KIND]).to_le_bytes());
+            let kind = random.pick(&[2u16, 3, 9, 10, 14, 15, LAST_KIND]);
+            input.extend(kind.to_le_bytes());
             input.extend([0; 16]);
         }
         _ => {}

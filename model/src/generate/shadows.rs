@@ -2,7 +2,7 @@
 
 use crate::block::{Beginning, Block};
 use crate::call::Call;
-use crate::generate::{call, inside, places};
+use crate::generate::{call, ending_anywhere, inside, places};
 use crate::image::{image, Shadows};
 use crate::map::Map;
 use crate::plain::{List, PlainList};
@@ -43,9 +43,10 @@ pub fn any(random: &mut Random, map: Map) -> (Shadows, Call) {
         _ => damaged(random, map, changes),
     };
     let blocks = read_blocks(map, &shadows);
-    let call = match random.below(12) {
+    let call = match random.below(13) {
         0 => places::place_on(random, &shadows.heap),
-        1..=6 if !blocks.is_empty() => inside(random, &blocks),
+        1 => ending_anywhere(random, map),
+        2..=7 if !blocks.is_empty() => inside(random, &blocks),
         _ => call(random, map, &blocks),
     };
     (shadows, call)

@@ -8,7 +8,7 @@ use std::ops::Range;
 use crate::block::placement_as;
 use crate::bytes;
 use crate::call::{refusal, Answer, Call, Outcome, NO_FIELDS};
-use crate::map::{Area, Map, NULL};
+use crate::map::{Area, Map};
 use crate::origins::call::{OriginsCall, FIRST_ORIGIN, LAST_ORIGIN};
 use crate::origins::cells::{containing, origin_place, referent_place, State, CELL};
 use crate::reading::{number, Found, View};
@@ -79,7 +79,7 @@ impl Lent<'_> {
             Call::Record { .. } | Call::RecordWritten { .. } | Call::RecordLiteral { .. } => {
                 self.record(call)
             }
-            Call::Free { base } => self.free(base),
+            Call::Free { base } | Call::Remove { base } => self.end(call, base),
             _ => self.on_blocks(call),
         }
     }
@@ -120,13 +120,14 @@ impl Lent<'_> {
         Ok(NO_FIELDS)
     }
 
-    fn free(&mut self, base: u32) -> Outcome {
-        if base == NULL {
-            return self.on_blocks(Call::Free { base });
-        }
+    /// Free and remove, which leave the cells of the other area.
+    fn end(&mut self, call: Call, base: u32) -> Outcome {
         let found = self.view().read(base);
-        let outcome = self.on_blocks(Call::Free { base })?;
-        let area = self.map.area(base).expect("an accepted base has an area");
+        let outcome = self.on_blocks(call)?;
+        let Some(area) = self.map.area(base) else {
+            // The null pointer, with which no block goes.
+            return Ok(outcome);
+        };
         let length = found.block()?.expect("an accepted base has a block").length;
         // Each cell that has a byte of the block; not the header's, not the tail's (S4.5).
         for address in base..base + length {

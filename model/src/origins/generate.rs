@@ -18,10 +18,10 @@ use crate::random::Random;
 const REMEMBERED: usize = 12;
 
 /// The calls of one run, with what stale pointers are made of: the places of
-/// blocks that were freed, and the cells that were named.
+/// blocks that have ended, and the cells that were named.
 #[derive(Clone, Debug, Default)]
 pub struct Calls {
-    freed: Vec<(u32, u32)>,
+    ended: Vec<(u32, u32)>,
     cells: Vec<u32>,
 }
 
@@ -29,7 +29,7 @@ impl Calls {
     /// The next call, refused ones included; blocks are the live ones.
     pub fn next(&mut self, random: &mut Random, map: Map, blocks: &[Block]) -> OriginsCall {
         let call = self.draw(random, map, blocks);
-        self.remember(call, blocks);
+        self.remember(call, map, blocks);
         call
     }
 
@@ -40,8 +40,8 @@ impl Calls {
                 OriginsCall::Plain(aligned(random, call))
             }
             40..=49 => OriginsCall::Plain(self.again(random, map, blocks)),
-            50..=54 => OriginsCall::Plain(freeing(random, map, blocks)),
-            55..=69 => OriginsCall::Point {
+            50..=55 => OriginsCall::Plain(ending(random, map, blocks)),
+            56..=69 => OriginsCall::Point {
                 cell: self.cell(random, map, blocks),
                 address: self.target(random, map, blocks),
             },
@@ -56,11 +56,14 @@ impl Calls {
         }
     }
 
-    fn remember(&mut self, call: OriginsCall, blocks: &[Block]) {
+    fn remember(&mut self, call: OriginsCall, map: Map, blocks: &[Block]) {
         match call {
-            OriginsCall::Plain(Call::Free { base }) => {
+            OriginsCall::Plain(one @ (Call::Free { base } | Call::Remove { base })) => {
+                // Free of a stack block ends none, and neither does remove of a heap block.
+                let ends = |area| Call::to_end(area, base) == one;
                 let gone = blocks.iter().find(|block| block.base == base);
-                self.freed.extend(gone.map(|block| (base, block.length)));
+                let gone = gone.filter(|_| map.area(base).is_some_and(ends));
+                self.ended.extend(gone.map(|block| (base, block.length)));
             }
             // They stay when their block goes, and are no cells then.
             OriginsCall::Point { cell, .. } | OriginsCall::Copy { to: cell, .. }
@@ -70,19 +73,19 @@ impl Calls {
             }
             _ => {}
         }
-        let surplus = self.freed.len().saturating_sub(REMEMBERED);
-        self.freed.drain(..surplus);
+        let surplus = self.ended.len().saturating_sub(REMEMBERED);
+        self.ended.drain(..surplus);
         let surplus = self.cells.len().saturating_sub(REMEMBERED);
         self.cells.drain(..surplus);
     }
 
     /// A recording where a block was, as long as that one or not quite.
     fn again(&self, random: &mut Random, map: Map, blocks: &[Block]) -> Call {
-        if self.freed.is_empty() {
+        if self.ended.is_empty() {
             let call = generate::record(random, map, blocks);
             return aligned(random, call);
         }
-        let (base, was) = random.pick(&self.freed);
+        let (base, was) = random.pick(&self.ended);
         let length = random.pick(&[was, was, was + 1, was.saturating_sub(1), 4, 8]);
         generate::recording(random, base, length)
     }
@@ -104,13 +107,13 @@ impl Calls {
         }
     }
 
-    /// What a pointer is set to or compared with: live blocks, places of freed
+    /// What a pointer is set to or compared with: live blocks, places of ended
     /// ones, and anything else.
     fn target(&self, random: &mut Random, map: Map, blocks: &[Block]) -> u32 {
         match random.below(8) {
             0 => generate::address(random, map, blocks),
-            1 | 2 if !self.freed.is_empty() => {
-                let (base, length) = random.pick(&self.freed);
+            1 | 2 if !self.ended.is_empty() => {
+                let (base, length) = random.pick(&self.ended);
                 base + random.between(0, length)
             }
             _ if blocks.is_empty() => generate::address(random, map, blocks),
@@ -138,10 +141,11 @@ fn aligned(random: &mut Random, call: Call) -> Call {
     }
 }
 
-fn freeing(random: &mut Random, map: Map, blocks: &[Block]) -> Call {
+/// Free or remove, at the base of a live block if there is one.
+fn ending(random: &mut Random, map: Map, blocks: &[Block]) -> Call {
     let base = match blocks.is_empty() {
         true => generate::address(random, map, blocks),
         false => blocks[random.below(blocks.len() as u64) as usize].base,
     };
-    Call::Free { base }
+    generate::ending(random, map, base)
 }

@@ -53,7 +53,7 @@ impl History {
                 let addresses = base..base + u64::from(length);
                 self.live.push(Allocation { place, addresses });
             }
-            OriginsCall::Plain(Call::Free { base }) => self.end(base),
+            OriginsCall::Plain(Call::Free { base } | Call::Remove { base }) => self.end(base),
             OriginsCall::Plain(Call::Clear) => {
                 self.live.clear();
                 self.set.clear();

@@ -111,7 +111,7 @@ impl OriginsList {
             Call::Record { .. } | Call::RecordWritten { .. } | Call::RecordLiteral { .. } => {
                 self.record(call)
             }
-            Call::Free { base } => self.free(base),
+            Call::Free { base } | Call::Remove { base } => self.end(call, base),
             Call::Clear => {
                 self.origins.clear();
                 self.referents.clear();
@@ -139,10 +139,11 @@ impl OriginsList {
         Ok(NO_FIELDS)
     }
 
-    fn free(&mut self, base: u32) -> Outcome {
+    /// Free and remove: with the block goes its origin, and each pointer that it holds.
+    fn end(&mut self, call: Call, base: u32) -> Outcome {
         let block = self.blocks().iter().find(|block| block.base == base);
         let gone = block.map_or(0..0, |block| u64::from(block.base)..block.end());
-        let outcome = self.on_blocks(Call::Free { base })?;
+        let outcome = self.on_blocks(call)?;
         self.origins.remove(&base);
         // A set pointer's cell lies in one block, so it lies in this one or not at all.
         self.referents

@@ -1,4 +1,4 @@
-//! The calls program of this form: the plain kinds, 14 and 15 among them, and
+//! The calls program of this form: the plain kinds, 14 to 16 among them, and
 //! kinds 11 to 13.
 
 use crate::call::{refusal, Answer, Outcome, NO_FIELDS};

@@ -2,6 +2,8 @@
 #![allow(dead_code)]
 
 pub mod gaps;
+pub mod lent;
+pub mod program;
 
 use std::collections::HashMap;
 use std::path::PathBuf;
@@ -11,9 +13,7 @@ use model::call::{Answer, Call};
 use model::image::Shadows;
 use model::map::Map;
 use model::notation::{examples, Example, OneCall, EXAMPLE_MAP};
-use model::origins;
-use model::origins::cells::{Cells, State};
-use model::origins::program::Record;
+use model::reading::View;
 
 /// A file of tests/data.
 pub fn data(name: &str) -> Vec<u8> {
@@ -73,6 +73,28 @@ pub fn on(map: Map, shadows: &mut Shadows, call: Call) -> Answer {
     )
 }
 
+/// Its answer and the bytes afterwards.
+pub fn step(map: Map, bytes: &Shadows, call: Call) -> (Answer, Shadows) {
+    let mut after = bytes.clone();
+    (on(map, &mut after, call), after)
+}
+
+/// Shadows under their map, to look at only.
+pub fn view(map: Map, shadows: &Shadows) -> View<'_> {
+    View {
+        map,
+        heap: &shadows.heap,
+        primary: &shadows.primary,
+        secondary: &shadows.secondary,
+    }
+}
+
+/// Every address of the two areas, from the lowest on.
+pub fn addresses(map: Map) -> impl Iterator<Item = u32> {
+    let [low, high] = map.climbing().map(|area| map.bounds(area));
+    low.chain(high).map(|address| address as u32)
+}
+
 /// One example on the byte-level model: answer, stated bytes, and no change
 /// where none is due.
 pub fn on_bytes(line: &str, example: &OneCall) {
@@ -89,41 +111,8 @@ pub fn on_bytes(line: &str, example: &OneCall) {
     }
 }
 
-/// The calls program of the form with origins, on the byte-level model instead of the list.
-pub fn origins_on_bytes(mut input: &[u8]) -> Vec<u8> {
-    let mut map = Map::default();
-    let mut state = State::cleared(map);
-    let mut output = String::new();
-    while !input.is_empty() {
-        let Some((record, rest)) = origins::program::decode(input) else {
-            output += "9\n";
-            break;
-        };
-        input = rest;
-        match record {
-            Record::Map(new) => {
-                let number = match (new.good(), new.heap_size, new.stack_size) {
-                    (false, ..) => 1,
-                    (true, 0..=32_768, 0..=16_384) => 0,
-                    _ => 10,
-                };
-                if number == 0 {
-                    map = new;
-                    state.shadows = Shadows::cleared(map);
-                    state.cells = Cells::cleared(map);
-                }
-                output += &format!("1 {number}\n");
-            }
-            Record::Call(kind, call) => {
-                let answer = origins::bytes::call(map, &mut state, call);
-                let fields = match answer.number {
-                    0 => &answer.fields[..call.answer_fields()],
-                    _ => &[],
-                };
-                let fields: String = fields.iter().map(|field| format!(" {field}")).collect();
-                output += &format!("{kind} {}{fields}\n", answer.number);
-            }
-        }
-    }
-    output.into_bytes()
+/// The call that ends the block of this base, or is refused there.
+pub fn ending(map: Map, base: u32) -> Call {
+    let area = map.area(base).expect("a base of an area");
+    Call::to_end(area, base)
 }

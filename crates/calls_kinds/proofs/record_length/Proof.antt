@@ -21,7 +21,7 @@ returns-3 c = ⊎-elim (λ e. rw e) (⊎-elim (λ e. rw e) (⊎-elim (λ e. rw e
 
 returns-4 : tie.Need-returns-4
 unfolding fieldsOf
-returns-4 c = ⊎-elim (λ e. rw e) (⊎-elim (λ e. rw e) (λ e. rw e)) (c .match .keys4)
+returns-4 c = ⊎-elim (λ e. rw e) (⊎-elim (λ e. rw e) (⊎-elim (λ e. rw e) (λ e. rw e))) (c .match .keys4)
 
 returns-5 : tie.Need-returns-5
 unfolding fieldsOf
@@ -31,7 +31,7 @@ returns-6 : tie.Need-returns-6
 returns-6 c =
     let r = c .match .rest in
     sym (ap lengthFor (no-kind _ (r .0 .0 .0 .0 .1) (λ e. r .0 .0 .1 (inl e)) (λ e. r .0 .1 (inl e)) (λ e. r .0 .0 .1 (inr (inl e)))
-    (λ e. r .0 .1 (inr (inl e))) (λ e. r .0 .0 .0 .1 (inl e)) (λ e. r .0 .0 .1 (inr (inr (inl e)))) (λ e. r .0 .1 (inr (inr e))) (r .1) (λ e. r .0 .0 .1 (inr (inr (inr (inl e))))) (λ e. r .0 .0 .1 (inr (inr (inr (inr e))))) (λ e. r .0 .0 .0 .1 (inr e))))
+    (λ e. r .0 .1 (inr (inl e))) (λ e. r .0 .0 .0 .1 (inl e)) (λ e. r .0 .0 .1 (inr (inr (inl e)))) (λ e. r .0 .1 (inr (inr (inl e)))) (r .1) (λ e. r .0 .0 .1 (inr (inr (inr (inl e))))) (λ e. r .0 .0 .1 (inr (inr (inr (inr e))))) (λ e. r .0 .0 .0 .1 (inr e)) (λ e. r .0 .1 (inr (inr (inr e))))))
 
 pub record-length-spec : {M : Type 1} → statement M
 record-length-spec = tie.close (tie.spec returns returns-2 returns-3 returns-4 returns-5 returns-6)

@@ -18,9 +18,13 @@ long-4 : (c : tie.At-match-keys2) → 12 ≤ length (now (c .before .before .arg
 unfolding fieldsOf
 long-4 c = reach 4 (c .match .keys2) (c .before .before .pre .1)
 
+long-16 : (c : tie.At-match-keys3) → 8 ≤ length (now (c .before .before .args .s))
+unfolding fieldsOf
+long-16 c = reach 16 (c .match .keys3) (c .before .before .pre .1)
+
 -- the kinds that are left record a block
 last : (c : tie.At-match-rest) → Records (c .before .before .args .kind)
-last c = let r = c .match .rest in last-write _ (c .before .before .pre .0) (r .0 .1) (r .1)
+last c = let r = c .match .rest in last-write _ (c .before .before .pre .0) (r .0 .0 .1) (r .0 .1) (r .1)
 
 long : (c : tie.At-match-rest) → 12 ≤ length (now (c .before .before .args .s))
 long c = records-long (last c) (c .before .before .pre .1)
@@ -34,14 +38,17 @@ field-requires-2 c κs = omega (arith, long-4 c)
 field-requires-3 : tie.Need-field-requires-3
 field-requires-3 c κs = omega (arith, long-4 (c .before))
 
+field-requires-4 : tie.Need-field-requires-4
+field-requires-4 c κs = omega (arith, long-16 c)
+
 beginning-of-requires : tie.Need-beginning-of-requires
 beginning-of-requires c κs = last c
 
-field-requires-4 : tie.Need-field-requires-4
-field-requires-4 c κs = omega (arith, long (c .before))
-
 field-requires-5 : tie.Need-field-requires-5
-field-requires-5 c κs = omega (arith, long (c .before .before))
+field-requires-5 c κs = omega (arith, long (c .before))
+
+field-requires-6 : tie.Need-field-requires-6
+field-requires-6 c κs = omega (arith, long (c .before .before))
 
 returns : tie.Need-returns
 unfolding requestOf
@@ -52,7 +59,11 @@ unfolding requestOf
 returns-2 c = rw (c .before .before .match .keys2, c .before .field2 .ensures, c .field3 .ensures)
 
 returns-3 : tie.Need-returns-3
-returns-3 c = rw (c .before .field4 .ensures, c .field5 .ensures) (begin-request _ _ _ (c .before .before .beginning-of .ensures))
+unfolding requestOf
+returns-3 c = rw (c .before .match .keys3, c .field4 .ensures)
+
+returns-4 : tie.Need-returns-4
+returns-4 c = rw (c .before .field5 .ensures, c .field6 .ensures) (begin-request _ _ _ (c .before .before .beginning-of .ensures))
 
 pub update-of-spec : {M : Type 1} → statement M
 update-of-spec =
@@ -61,9 +72,11 @@ update-of-spec =
     field-requires
     field-requires-2
     field-requires-3
-    beginning-of-requires
     field-requires-4
+    beginning-of-requires
     field-requires-5
+    field-requires-6
     returns
     returns-2
-    returns-3)
+    returns-3
+    returns-4)

@@ -16,23 +16,9 @@ told-requires c κs = search needs
 same-length : tie.Need-same-length
 same-length c = search needs
 
-same-length-2 : tie.Need-same-length-2
-same-length-2 c = search needs
-
-same-length-3 : tie.Need-same-length-3
-same-length-3 c = search needs
-
 returns : tie.Need-returns
-returns c = spoken _ _ (c .told .last .1 .0) _ _ _ _ _ _ _ (c .told .ensures) (c .before .before .before .before .before .before .before .before .free .ensures) (c .before .before .before .before .before .before .before .before .before .before .before .before .map-of .ensures)
+returns c = spoken _ _ (c .told .last .1 .0) _ _ _ _ _ _ _ (c .told .ensures) (c .before .before .before .before .free .ensures) (c .before .before .before .before .before .before .map-of .ensures)
 
 pub block-monitor-free-spec : {M : Type 1} → statement M
 block-monitor-free-spec =
-    tie.close
-    (tie.spec
-    map-of-requires
-    free-requires
-    told-requires
-    same-length
-    same-length-2
-    same-length-3
-    returns)
+    tie.close (tie.spec map-of-requires free-requires told-requires same-length returns)

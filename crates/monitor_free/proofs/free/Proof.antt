@@ -1,46 +1,78 @@
--- `monitor_free::free` meets its contract: the check, then the effect. Assumes nothing.
+-- `monitor_free::free` meets its contract: the check, then the effect on the block that it found. Assumes nothing.
+use mathlib.Core.Path.{_≡_}
 use denote.Ref.{now}
+use Rattle.plain.specs.Call.{free}
 use Rattle.shadows.specs.Shadows.{Shadows}
-use Rattle.monitor_write_laws.proofs.FreeChecks.{free-call}
+use Rattle.monitor_base.specs.Calls.{call}
+use Rattle.monitor_base.specs.declared.Ending.{Ending}
+use Rattle.monitor_base.specs.declared.Ending.the-variants.{Block, Settled}
+use Rattle.monitor_write_laws.specs.Checks.{freedBy, Freeable}
 use borrow.Author.Needs.{needs}
 use Rattle.monitor_free.proofs.free.Statement.{statement}
 use Rattle.monitor_free.proofs.free.Tie as tie
 
--- the function's entry, from where the check is done
+-- the function's entry
 abbrev entry : tie.After-check → tie.Start
-entry c = c .before .before .before .before .before .before .before
+entry c = c .before .before .before .before .before
 
 abbrev shadows : tie.Start → Shadows
 shadows c = (now (c .args .heap), (now (c .args .primary), now (c .args .secondary)))
 
+-- what the check says of what it found
+abbrev Found : tie.After-check → Ending → Type 0
+Found c r =
+    let e = entry c in
+    (freedBy (shadows e) r ≡ call (e .args .map) (free (e .args .base .0)) (shadows e)) × Freeable (e .args .map) (shadows e) (e .args .base .0) r
+
+block-found : (c : tie.After-p) → Found (c .before .before) (Block (c .p .given .0 .0) (c .p .given .0 .1 .0))
+block-found c = rw (c .p .given .1) at (c .before .before .check .ensures)
+
+settled : (c : tie.After-number) → Found (c .before .before) (Settled (c .number .given .0 .0))
+settled c = rw (c .number .given .1) at (c .before .before .check .ensures)
+
 check-requires : tie.Need-check-requires
 check-requires c κs = search needs
 
+enum-known-p : tie.Need-enum-known-p
+enum-known-p c = search needs
+
 erase-requires : tie.Need-erase-requires
-erase-requires c κs = c .before .before .before .check .ensures .3
+erase-requires c κs = let f = block-found (c .before .before) .1 in (f .1, f .2)
 
 refusal-requires : tie.Need-refusal-requires
 refusal-requires c κs = search needs
 
+enum-known-number : tie.Need-enum-known-number
+enum-known-number c = search needs
+
+refusal-requires-2 : tie.Need-refusal-requires-2
+refusal-requires-2 c κs = search needs
+
 same-length : tie.Need-same-length
 same-length c = search needs
+
+returns : tie.Need-returns
+returns c =
+    let x = c .before .before .before in
+    rw (c .refusal .ensures, x .erase .ensures) (block-found (x .before .before .before) .0)
 
 same-length-2 : tie.Need-same-length-2
 same-length-2 c = search needs
 
-same-length-3 : tie.Need-same-length-3
-same-length-3 c = search needs
-
-returns : tie.Need-returns
-returns c =
-    let x = c .before .before .before .before .before .before .before in
-    let k = x .before .before .before .before in
-    let e = entry k in
-    let f = k .check .ensures in
-    rw (c .refusal .ensures)
-    (free-call (e .args .map) (shadows e) (e .args .base .0) _ (f .0) (k .check .result .place) _ (f .1) (f .2) _ (x .erase .ensures))
+returns-2 : tie.Need-returns-2
+returns-2 c = rw (c .refusal2 .ensures) (settled (c .before .before) .0)
 
 pub free-spec : {M : Type 1} → statement M
 free-spec =
     tie.close
-    (tie.spec check-requires erase-requires refusal-requires same-length same-length-2 same-length-3 returns)
+    (tie.spec
+    check-requires
+    enum-known-p
+    erase-requires
+    refusal-requires
+    enum-known-number
+    refusal-requires-2
+    same-length
+    returns
+    same-length-2
+    returns-2)

@@ -1,20 +1,17 @@
 -- `monitor_free_check::check` meets its contract: one arm for each area. Assumes nothing.
-use mathlib.Core.Path.{_≡_, refl, sym, ap, _∙_}
+use mathlib.Core.Path.{_≡_, sym, _∙_}
 use mathlib.Core.Bool.{true}
 use native.Mathlib.Omega.{arith}
 use denote.Ref.{now}
 use Rattle.map.specs.Map.{goodMap}
 use Rattle.plain.specs.Call.{free}
-use Rattle.plain.specs.ShadowCalls.{lengthOf}
 use Rattle.shadows.specs.Shadows.{Shadows, lengthsFit}
 use Rattle.monitor_base.specs.Locating.{Lies}
 use Rattle.monitor_base.specs.declared.Located.{Located}
 use Rattle.monitor_base.specs.declared.Located.the-variants.{Heap, Stack, Outside}
-use Rattle.monitor_base.proofs.CallLaws.{early-good}
-use Rattle.monitor_base.proofs.LocatingLaws.{heap-there, stack-there}
-use Rattle.monitor_write_laws.specs.AreaCalls.{freeRefusal}
-use Rattle.monitor_write_laws.proofs.CheckLaws.{number-early}
-use Rattle.monitor_write_laws.proofs.FreeChecks.{free-number-0, free-number-4, free-heap, free-stack, length-out, length-heap, length-stack, area-found}
+use Rattle.monitor_base.proofs.CallLaws.{call-early, early-good}
+use Rattle.monitor_base.proofs.LocatingLaws.{heap-there}
+use Rattle.monitor_write_laws.proofs.EndChecks.{null-freed, outside-freed, stack-freed, heap-freed, freeable}
 use borrow.Author.Needs.{needs}
 use Rattle.monitor_free_check.proofs.check.Statement.{statement}
 use Rattle.monitor_free_check.proofs.check.Tie as tie
@@ -37,11 +34,11 @@ lies c = let e = entry (c .before .before) in Lies (e .args .map) (e .args .base
 in-heap : (c : tie.After-p) → lies (c .before .before) (Heap (c .p .given .0 .0))
 in-heap c = rw (c .p .given .1) at (c .before .before .locate .ensures)
 
-in-stack : (c : tie.After-p2) → lies (c .before .before) (Stack (c .p2 .given .0 .0))
-in-stack c = rw (c .p2 .given .1) at (c .before .before .locate .ensures)
+in-stack : (c : tie.After-enum-told) → lies (c .before .before) (Stack (c .enum-told .given .0 .0))
+in-stack c = rw (c .enum-told .given .1) at (c .before .before .locate .ensures)
 
-outside : (c : tie.After-enum-told) → lies (c .before .before) Outside
-outside c = rw (c .enum-told .given .1) at (c .before .before .locate .ensures)
+outside : (c : tie.After-enum-told2) → lies (c .before .before) Outside
+outside c = rw (c .enum-told2 .given .1) at (c .before .before .locate .ensures)
 
 checked-requires : tie.Need-checked-requires
 checked-requires c κs = search needs
@@ -50,7 +47,7 @@ returns : tie.Need-returns
 unfolding lengthsFit
 returns c =
     let e = entry (c .before) in
-    (number-early (e .args .map) (free (e .args .base .0)) (shadows e) _ (c .before .checked .ensures) (c .if1 .taken), λ z. absurd (c .if1 .taken z), λ n. refl, tt)
+    (sym (call-early (e .args .map) (free (e .args .base .0)) (shadows e) _ (c .before .checked .ensures) (c .if1 .taken)), λ z. absurd (c .if1 .taken z))
 
 locate-requires : tie.Need-locate-requires
 locate-requires c κs = search needs
@@ -67,38 +64,14 @@ read-requires c κs =
     let h = in-heap p in
     heap-there (e .args .map) (shadows e) (g .0) (g .1) (e .args .base .0) _ (h .0) (h .1)
 
-refused-requires : tie.Need-refused-requires
-refused-requires c κs = search needs
-
-length-of-requires : tie.Need-length-of-requires
-length-of-requires c κs = search needs
-
-in-area-requires : tie.Need-in-area-requires
-in-area-requires c κs = search needs
-
-enum-known-p-2 : tie.Need-enum-known-p-2
-enum-known-p-2 c = search needs
-
-read-requires-2 : tie.Need-read-requires-2
-read-requires-2 c κs =
-    let p = c .before in
-    let l = p .before .before in
-    let e = entry (l .before .before) in
-    let g = good-fit (l .before) in
-    let h = in-stack p in
-    stack-there (e .args .map) (shadows e) (g .0) (g .1) (e .args .base .0) _ (h .0) (h .1)
-
-refused-requires-2 : tie.Need-refused-requires-2
-refused-requires-2 c κs = search needs
-
-length-of-requires-2 : tie.Need-length-of-requires-2
-length-of-requires-2 c κs = search needs
-
-in-area-requires-2 : tie.Need-in-area-requires-2
-in-area-requires-2 c κs = search needs
+ending-requires : tie.Need-ending-requires
+ending-requires c κs = search needs
 
 enum-told : tie.Need-enum-told
 enum-told c = search needs
+
+enum-told-2 : tie.Need-enum-told-2
+enum-told-2 c = search needs
 
 returns-2 : tie.Need-returns-2
 returns-2 c =
@@ -106,35 +79,24 @@ returns-2 c =
     let l = o .before .before in
     let e = entry (l .before .before) in
     let g = good-fit (l .before) in
-    let n = free-number-0 (e .args .map) (shadows e) (e .args .base .0) (g .0) (g .1) (c .if2 .taken) in
-    let m = length-out (e .args .map) (shadows e) (e .args .base .0) (g .0) (g .1) (outside o) in
-    (n, λ z. (outside o, m), λ x. refl, tt)
+    (null-freed (e .args .map) (shadows e) (e .args .base .0) (g .0) (g .1) (c .if2 .taken), λ z. c .if2 .taken)
 
 returns-3 : tie.Need-returns-3
 returns-3 c =
-    let x = c .before .before .before in
+    let x = c .before in
     let p = x .before .before in
     let l = p .before .before in
     let e = entry (l .before .before) in
     let g = good-fit (l .before) in
     let h = in-heap p in
-    area-found (e .args .map) (shadows e) (e .args .base .0) _
-    (c .before .before .refused .ensures ∙ ap freeRefusal (x .read .ensures) ∙ free-heap (e .args .map) (shadows e) (e .args .base .0) (g .0) (g .1) _ (h .0) (h .1)) (Heap _) h _
-    (c .before .length-of .ensures ∙ ap lengthOf (x .read .ensures) ∙ length-heap (e .args .map) (shadows e) (e .args .base .0) (g .0) (g .1) _ (h .0) (h .1)) _
-    (c .in-area .ensures .0) (c .in-area .result .place) _ (c .in-area .ensures .1) (c .in-area .ensures .2)
+    rw (c .ending .ensures, x .read .ensures) (heap-freed (e .args .map) (shadows e) (e .args .base .0) (g .0) (g .1) _ h, freeable (e .args .map) (shadows e) (e .args .base .0) (g .0) (g .1) _ h)
 
 returns-4 : tie.Need-returns-4
 returns-4 c =
-    let x = c .before .before .before in
-    let p = x .before .before in
-    let l = p .before .before in
+    let l = c .before .before in
     let e = entry (l .before .before) in
     let g = good-fit (l .before) in
-    let h = in-stack p in
-    area-found (e .args .map) (shadows e) (e .args .base .0) _
-    (c .before .before .refused2 .ensures ∙ ap freeRefusal (x .read2 .ensures) ∙ free-stack (e .args .map) (shadows e) (e .args .base .0) (g .0) (g .1) _ (h .0) (h .1)) (Stack _) h _
-    (c .before .length-of2 .ensures ∙ ap lengthOf (x .read2 .ensures) ∙ length-stack (e .args .map) (shadows e) (e .args .base .0) (g .0) (g .1) _ (h .0) (h .1)) _
-    (c .in-area2 .ensures .0) (c .in-area2 .result .place) _ (c .in-area2 .ensures .1) (c .in-area2 .ensures .2)
+    (stack-freed (e .args .map) (shadows e) (e .args .base .0) (g .0) (g .1) _ (in-stack c), λ z. absurd (omega arith))
 
 returns-5 : tie.Need-returns-5
 returns-5 c =
@@ -142,7 +104,7 @@ returns-5 c =
     let l = o .before .before in
     let e = entry (l .before .before) in
     let g = good-fit (l .before) in
-    (free-number-4 (e .args .map) (shadows e) (e .args .base .0) (g .0) (g .1) (c .if2 .left) (outside o), λ z. absurd (omega arith), λ x. refl, tt)
+    (outside-freed (e .args .map) (shadows e) (e .args .base .0) (g .0) (g .1) (c .if2 .left) (outside o), λ z. absurd (omega arith))
 
 pub check-spec : {M : Type 1} → statement M
 check-spec =
@@ -153,15 +115,9 @@ check-spec =
     locate-requires
     enum-known-p
     read-requires
-    refused-requires
-    length-of-requires
-    in-area-requires
-    enum-known-p-2
-    read-requires-2
-    refused-requires-2
-    length-of-requires-2
-    in-area-requires-2
+    ending-requires
     enum-told
+    enum-told-2
     returns-2
     returns-3
     returns-4

@@ -24,6 +24,12 @@ free-requires c κs = search needs
 enum-known-update-3 : tie.Need-enum-known-update-3
 enum-known-update-3 c = search needs
 
+remove-requires : tie.Need-remove-requires
+remove-requires c κs = search needs
+
+enum-known-update-4 : tie.Need-enum-known-update-4
+enum-known-update-4 c = search needs
+
 written-requires : tie.Need-written-requires
 written-requires c κs = search needs
 
@@ -37,7 +43,9 @@ same-length-3 : tie.Need-same-length-3
 same-length-3 c = search needs
 
 returns : tie.Need-returns
-returns c = rw (c .before .before .before .before .before .before .before .before .before .before .enum-told .given .1) (c .before .before .before .before .before .before .clear .ensures)
+returns c =
+    let x = c .before .before .before .before .before .before in
+    rw (x .before .before .before .before .enum-told .given .1) (x .clear .ensures)
 
 same-length-4 : tie.Need-same-length-4
 same-length-4 c = search needs
@@ -49,7 +57,9 @@ same-length-6 : tie.Need-same-length-6
 same-length-6 c = search needs
 
 returns-2 : tie.Need-returns-2
-returns-2 c = rw (c .before .before .before .before .before .before .before .before .before .before .before .update .given .1) (c .before .before .before .before .before .before .begin .ensures)
+returns-2 c =
+    let x = c .before .before .before .before .before .before in
+    rw (x .before .before .before .before .before .update .given .1) (x .begin .ensures)
 
 same-length-7 : tie.Need-same-length-7
 same-length-7 c = search needs
@@ -61,7 +71,9 @@ same-length-9 : tie.Need-same-length-9
 same-length-9 c = search needs
 
 returns-3 : tie.Need-returns-3
-returns-3 c = rw (c .before .before .before .before .before .before .before .before .before .before .before .update2 .given .1) (c .before .before .before .before .before .before .free .ensures)
+returns-3 c =
+    let x = c .before .before in
+    rw (x .before .before .before .before .before .update2 .given .1) (x .free .ensures)
 
 same-length-10 : tie.Need-same-length-10
 same-length-10 c = search needs
@@ -73,7 +85,23 @@ same-length-12 : tie.Need-same-length-12
 same-length-12 c = search needs
 
 returns-4 : tie.Need-returns-4
-returns-4 c = rw (c .before .before .before .before .before .before .before .before .before .before .before .update3 .given .1) (c .before .before .before .before .before .before .written .ensures)
+returns-4 c =
+    let x = c .before .before .before .before in
+    rw (x .before .before .before .before .before .update3 .given .1) (x .remove .ensures)
+
+same-length-13 : tie.Need-same-length-13
+same-length-13 c = search needs
+
+same-length-14 : tie.Need-same-length-14
+same-length-14 c = search needs
+
+same-length-15 : tie.Need-same-length-15
+same-length-15 c = search needs
+
+returns-5 : tie.Need-returns-5
+returns-5 c =
+    let x = c .before .before .before .before .before .before in
+    rw (x .before .before .before .before .before .update4 .given .1) (x .written .ensures)
 
 pub update-step-spec : {M : Type 1} → statement M
 update-step-spec =
@@ -86,6 +114,8 @@ update-step-spec =
     enum-known-update-2
     free-requires
     enum-known-update-3
+    remove-requires
+    enum-known-update-4
     written-requires
     same-length
     same-length-2
@@ -102,4 +132,8 @@ update-step-spec =
     same-length-10
     same-length-11
     same-length-12
-    returns-4)
+    returns-4
+    same-length-13
+    same-length-14
+    same-length-15
+    returns-5)

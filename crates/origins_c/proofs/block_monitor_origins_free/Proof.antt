@@ -19,28 +19,10 @@ same-length c = search needs
 same-length-2 : tie.Need-same-length-2
 same-length-2 c = search needs
 
-same-length-3 : tie.Need-same-length-3
-same-length-3 c = search needs
-
-same-length-4 : tie.Need-same-length-4
-same-length-4 c = search needs
-
-same-length-5 : tie.Need-same-length-5
-same-length-5 c = search needs
-
 returns : tie.Need-returns
-returns c = spoken _ _ (c .told .last .1 .0) _ _ _ _ _ _ _ _ _ _ _ _ _ (c .told .ensures) (c .before .before .before .before .before .before .before .before .before .before .before .before .free .ensures) (c .before .before .before .before .before .before .before .before .before .before .before .before .before .before .before .before .before .before .map-of .ensures)
+returns c = spoken _ _ (c .told .last .1 .0) _ _ _ _ _ _ _ _ _ _ _ _ _ (c .told .ensures) (c .before .before .before .before .before .before .free .ensures) (c .before .before .before .before .before .before .before .before .before .map-of .ensures)
 
 pub block-monitor-origins-free-spec : {M : Type 1} → statement M
 block-monitor-origins-free-spec =
     tie.close
-    (tie.spec
-    map-of-requires
-    free-requires
-    told-requires
-    same-length
-    same-length-2
-    same-length-3
-    same-length-4
-    same-length-5
-    returns)
+    (tie.spec map-of-requires free-requires told-requires same-length same-length-2 returns)

@@ -1,14 +1,22 @@
--- `origins_free::free` meets its contract: the cells fit, then the plain form's check, then the effect on shadows and cells. Assumes nothing.
-use mathlib.Core.Path.{_≡_, sym, _∙_}
+-- `origins_free::free` meets its contract: the cells fit, then the plain form's check, then the effect on shadow and cells. Assumes nothing.
+use mathlib.Core.Path.{_≡_, refl, sym, ap, _∙_}
 use mathlib.Core.Bool.{true}
+use mathlib.Core.List.{List}
+use Prim.Native.Nat.{ℕ}
+use native.Mathlib.Omega.{arith}
 use denote.Ref.{now}
 use borrow.Author.Tests.{not-true, not-false}
-use Rattle.plain.specs.Call.{free}
+use Rattle.plain.specs.Call.{free, done}
 use Rattle.shadows.specs.Shadows.{Shadows}
+use Rattle.monitor_base.specs.Calls as plainForm
+use Rattle.monitor_base.specs.declared.Ending.{Ending}
+use Rattle.monitor_base.specs.declared.Ending.the-variants.{Block, Settled}
+use Rattle.monitor_base.specs.declared.Located.the-variants.{Heap}
+use Rattle.monitor_write_laws.specs.Checks.{freedBy, Freeable}
 use Rattle.cells_layout.specs.Cells.{Cells, cellsFit}
 use Rattle.origins_list.specs.Call.{plain}
 use Rattle.origins_laws.proofs.PlainLaws.{stateOf, told-unfit}
-use Rattle.origins_write_laws.proofs.FreeLaws.{freeable, freed-call}
+use Rattle.origins_write_laws.proofs.EndLaws.{ended-call, heap-ready, free-ends, free-settled}
 use borrow.Author.Needs.{needs}
 use Rattle.origins_free.proofs.free.Statement.{statement}
 use Rattle.origins_free.proofs.free.Tie as tie
@@ -30,14 +38,19 @@ fits c = sym (c .before .cells-fit .ensures) ∙ not-false (c .before .cells-fit
 
 -- from the check: where the cells fit
 abbrev fitting : tie.After-check → tie.Else1
-fitting c = c .before .before .before .before
+fitting c = c .before .before
 
--- from the effect on the cells: that on the shadows, and the check
-abbrev erased : tie.After-zero-arg2 → tie.After-erase
-erased c = c .before .before .before .before .before .before .before .before
+-- what the check says of what it found
+abbrev Found : tie.After-check → Ending → Type 0
+Found c r =
+    let e = entry (fitting c .before) in
+    (freedBy (shadows e) r ≡ plainForm.call (e .args .map) (free (e .args .base .0)) (shadows e)) × Freeable (e .args .map) (shadows e) (e .args .base .0) r
 
-abbrev checked : tie.After-erase → tie.After-check
-checked c = c .before .before .before .before
+block-found : (c : tie.After-p) → Found (c .before .before) (Block (c .p .given .0 .0) (c .p .given .0 .1 .0))
+block-found c = rw (c .p .given .1) at (c .before .before .check .ensures)
+
+settled : (c : tie.After-number) → Found (c .before .before) (Settled (c .number .given .0 .0))
+settled c = rw (c .number .given .1) at (c .before .before .check .ensures)
 
 cells-fit-requires : tie.Need-cells-fit-requires
 cells-fit-requires c κs = search needs
@@ -59,19 +72,29 @@ returns c k =
 check-requires : tie.Need-check-requires
 check-requires c κs = search needs
 
+enum-known-p : tie.Need-enum-known-p
+enum-known-p c = search needs
+
 erase-requires : tie.Need-erase-requires
-erase-requires c κs = c .before .before .before .check .ensures .3
+erase-requires c κs = let f = block-found (c .before .before) .1 in (f .1, f .2)
 
 zero-requires : tie.Need-zero-requires
 zero-requires c κs =
-    let h = checked (erased c) in
-    let i = fitting h in
+    let p = c .before .before .before .before .before .before in
+    let i = fitting (p .before .before) in
     let e = entry (i .before) in
-    let f = h .check .ensures in
-    freeable (e .args .map) (shadows e) (cells e) (fits i) (e .args .base .0) _ (f .0) (h .check .result .place) _ (f .2) (f .3)
+    let f = block-found p in
+    heap-ready (e .args .map) (shadows e) (cells e) (fits i) (free (e .args .base .0)) (e .args .base .0)
+    (free-ends (e .args .map) (shadows e) _ (e .args .base .0) _ (f .1 .0 .0) (f .0)) refl _ (f .0) _ _ (f .1 .1 .2)
 
 refusal-requires-2 : tie.Need-refusal-requires-2
 refusal-requires-2 c κs = search needs
+
+enum-known-number : tie.Need-enum-known-number
+enum-known-number c = search needs
+
+refusal-requires-3 : tie.Need-refusal-requires-3
+refusal-requires-3 c κs = search needs
 
 same-length : tie.Need-same-length
 same-length c = search needs
@@ -79,25 +102,29 @@ same-length c = search needs
 same-length-2 : tie.Need-same-length-2
 same-length-2 c = search needs
 
+returns-2 : tie.Need-returns-2
+returns-2 c k =
+    let o = c .before .before .before in
+    let x = o .before .before .before .before in
+    let p = x .before .before .before in
+    let i = fitting (p .before .before) in
+    let e = entry (i .before) in
+    let f = block-found p in
+    ended-call (e .args .map) (shadows e) (cells e) (fits i) (free (e .args .base .0)) (e .args .base .0)
+    (free-ends (e .args .map) (shadows e) _ (e .args .base .0) _ (f .1 .0 .0) (f .0)) refl _
+    (ap (λ (h : List ℕ). ((h, shadows e .1), done)) (x .erase .ensures) ∙ f .0) (Heap _) (λ z. let w : _≡_ {A = ℕ} 0 1 = cc in omega arith) (f .1 .0 .0) _ (f .1 .0 .1) _
+    (ap (λ (h : List ℕ). (h, cells e .1)) (o .zero .ensures)) k _ (c .refusal2 .ensures)
+
 same-length-3 : tie.Need-same-length-3
 same-length-3 c = search needs
 
-same-length-4 : tie.Need-same-length-4
-same-length-4 c = search needs
-
-same-length-5 : tie.Need-same-length-5
-same-length-5 c = search needs
-
-returns-2 : tie.Need-returns-2
-returns-2 c k =
-    let o = c .before .before .before .before .before in
-    let x = erased (o .before) in
-    let h = checked x in
-    let i = fitting h in
+returns-3 : tie.Need-returns-3
+returns-3 c k =
+    let n = c .before .before in
+    let i = fitting (n .before .before) in
     let e = entry (i .before) in
-    let f = h .check .ensures in
-    freed-call (e .args .map) (shadows e) (cells e) (fits i) (e .args .base .0) _ (f .0) (h .check .result .place) _ (f .1) (f .2) _ (x .erase .ensures) _
-    (o .zero .ensures) k _ (c .refusal2 .ensures)
+    let f = settled n in
+    free-settled (e .args .map) (shadows e) (cells e) (fits i) (e .args .base .0) _ (f .1) (f .0) k _ (c .refusal3 .ensures)
 
 pub free-spec : {M : Type 1} → statement M
 free-spec =
@@ -108,12 +135,14 @@ free-spec =
     refusal-requires
     returns
     check-requires
+    enum-known-p
     erase-requires
     zero-requires
     refusal-requires-2
+    enum-known-number
+    refusal-requires-3
     same-length
     same-length-2
+    returns-2
     same-length-3
-    same-length-4
-    same-length-5
-    returns-2)
+    returns-3)

@@ -24,6 +24,12 @@ free-requires c κs = search needs
 enum-known-update-3 : tie.Need-enum-known-update-3
 enum-known-update-3 c = search needs
 
+remove-requires : tie.Need-remove-requires
+remove-requires c κs = search needs
+
+enum-known-update-4 : tie.Need-enum-known-update-4
+enum-known-update-4 c = search needs
+
 written-requires : tie.Need-written-requires
 written-requires c κs = search needs
 
@@ -84,7 +90,7 @@ same-length-15 c = search needs
 
 returns-3 : tie.Need-returns-3
 returns-3 c =
-    let x = c .before .before .before .before .before .before .before .before .before .before in
+    let x = c .before .before .before .before in
     rw (x .before .before .before .before .before .before .before .update2 .given .1) (x .free .ensures)
 
 same-length-16 : tie.Need-same-length-16
@@ -104,8 +110,28 @@ same-length-20 c = search needs
 
 returns-4 : tie.Need-returns-4
 returns-4 c =
+    let x = c .before .before .before .before .before .before in
+    rw (x .before .before .before .before .before .before .before .update3 .given .1) (x .remove .ensures)
+
+same-length-21 : tie.Need-same-length-21
+same-length-21 c = search needs
+
+same-length-22 : tie.Need-same-length-22
+same-length-22 c = search needs
+
+same-length-23 : tie.Need-same-length-23
+same-length-23 c = search needs
+
+same-length-24 : tie.Need-same-length-24
+same-length-24 c = search needs
+
+same-length-25 : tie.Need-same-length-25
+same-length-25 c = search needs
+
+returns-5 : tie.Need-returns-5
+returns-5 c =
     let x = c .before .before .before .before .before .before .before .before .before .before in
-    rw (x .before .before .before .before .before .before .before .update3 .given .1) (x .written .ensures)
+    rw (x .before .before .before .before .before .before .before .update4 .given .1) (x .written .ensures)
 
 pub update-step-spec : {M : Type 1} → statement M
 update-step-spec =
@@ -118,6 +144,8 @@ update-step-spec =
     enum-known-update-2
     free-requires
     enum-known-update-3
+    remove-requires
+    enum-known-update-4
     written-requires
     same-length
     same-length-2
@@ -142,4 +170,10 @@ update-step-spec =
     same-length-18
     same-length-19
     same-length-20
-    returns-4)
+    returns-4
+    same-length-21
+    same-length-22
+    same-length-23
+    same-length-24
+    same-length-25
+    returns-5)

@@ -1,6 +1,6 @@
 //! Shadows, cells and counters that no run of calls need have left.
 
-use crate::generate::{inside, shadows};
+use crate::generate::{ending_anywhere, inside, shadows};
 use crate::image::image;
 use crate::map::Map;
 use crate::origins::call::OriginsCall;
@@ -55,7 +55,8 @@ pub fn noise(random: &mut Random, map: Map) -> (State, OriginsCall) {
     (state, Calls::default().next(random, map, &blocks))
 }
 
-/// Any of these, at times with a plain call inside some block.
+/// Any of these, at times with a plain call inside some block, or with one that
+/// ends a block anywhere.
 pub fn any(random: &mut Random, map: Map) -> (State, OriginsCall) {
     let (state, call) = match random.below(6) {
         0 => noise(random, map),
@@ -63,10 +64,12 @@ pub fn any(random: &mut Random, map: Map) -> (State, OriginsCall) {
         _ => damaged(random, map),
     };
     let blocks = shadows::read_blocks(map, &state.shadows);
-    match blocks.is_empty() || !random.once_in(5) {
-        true => (state, call),
-        false => (state, OriginsCall::Plain(inside(random, &blocks))),
-    }
+    let call = match random.below(15) {
+        0 => OriginsCall::Plain(ending_anywhere(random, map)),
+        1..=3 if !blocks.is_empty() => OriginsCall::Plain(inside(random, &blocks)),
+        _ => call,
+    };
+    (state, call)
 }
 
 fn any_cells(random: &mut Random, map: Map, state: &mut State) {

@@ -34,9 +34,15 @@ slice-aggregate-or-5 c = search needs
 or-requires-5 : tie.Need-or-requires-5
 or-requires-5 c κs = search needs
 
+slice-aggregate-or-6 : tie.Need-slice-aggregate-or-6
+slice-aggregate-or-6 c = search needs
+
+or-requires-6 : tie.Need-or-requires-6
+or-requires-6 c κs = search needs
+
 returns : tie.Need-returns
 returns c =
-    also _ _ (c .or5 .ensures) (also _ _ (c .before .before .or4 .ensures) (also _ _ (c .before .before .before .before .or3 .ensures) (also _ _ (c .before .before .before .before .before .before .or2 .ensures) (c .before .before .before .before .before .before .before .before .or .ensures))))
+    also _ _ (c .or6 .ensures) (also _ _ (c .before .before .or5 .ensures) (also _ _ (c .before .before .before .before .or4 .ensures) (also _ _ (c .before .before .before .before .before .before .or3 .ensures) (also _ _ (c .before .before .before .before .before .before .before .before .or2 .ensures) (c .before .before .before .before .before .before .before .before .before .before .or .ensures)))))
 
 pub changing-spec : {M : Type 1} → statement M
 changing-spec =
@@ -52,4 +58,6 @@ changing-spec =
     or-requires-4
     slice-aggregate-or-5
     or-requires-5
+    slice-aggregate-or-6
+    or-requires-6
     returns)
