@@ -9,7 +9,7 @@ use borrow.Author.Tests.{ne-eqb}
 use Rattle.number.specs.Bits.{bit}
 use Rattle.map.specs.declared.Map.{Map}
 use Rattle.map.specs.Map.{goodMap}
-use Rattle.map.proofs.MapLaws.{Good, good-true, within-true}
+use Rattle.map.proofs.MapLaws.{good-true, within-true}
 use Rattle.plain.specs.declared.Beginning.{Beginning}
 use Rattle.plain.specs.declared.Beginning.the-variants.{Unwritten, Written, Literal}
 use Rattle.plain.specs.Areas.{placeLength, mapRules}

@@ -1,14 +1,13 @@
 -- Only heap blocks may be freed, proved: see specs/Removals.antt for what each says. Assumes nothing.
 use mathlib.Core.Path.{_≡_, refl, sym, ap, _∙_}
 use mathlib.Core.Logic.{_⊎_, inl, inr, ⊎-elim}
-use mathlib.Core.Bool.{Bool, true, false, cond, not, _&&_, _||_, true≢false}
+use mathlib.Core.Bool.{Bool, true, false, not, _&&_, _||_, true≢false}
 use mathlib.Core.List.{List, [], _∷_, _++_}
 use mathlib.Core.Option.{Option, none, some}
 use Prim.Native.Nat.{ℕ, zero, suc, _+_, _*_, _-_}
-use native.Mathlib.Omega.{arith}
 use borrow.Author.Tests.{eq-eqb, ne-eqb, eqb-true, not-false}
 use Rattle.number.specs.Parts.{over}
-use Rattle.number.proofs.TestLaws.{Test, is-true, is-false, test, false-of, not-both}
+use Rattle.number.proofs.TestLaws.{false-of, not-both}
 use Rattle.number.proofs.PartLaws.{length-over}
 use Rattle.map.specs.declared.Map.{Map}
 use Rattle.map.specs.Map.{goodMap}

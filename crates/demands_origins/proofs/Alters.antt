@@ -18,7 +18,7 @@ use Rattle.plain.specs.Reading.{Reading, nothing, block, damaged}
 use Rattle.plain.specs.declared.Beginning.{Beginning}
 use Rattle.plain.specs.declared.Beginning.the-variants.{Unwritten, Written, Literal}
 use Rattle.plain.specs.Call.{clear, begin, free, remove, written, ask, valid, initialised, next, audit, place, Answer, yesNo, firstOf, unless}
-use Rattle.plain.specs.ShadowCalls.{isDamaged, isFirst, lengthOf}
+use Rattle.plain.specs.ShadowCalls.{isFirst, lengthOf}
 use Rattle.shadows.specs.Shadows.{lengthsFit, shadowOps}
 use Rattle.demands.specs.Addresses.{inHeap, outside, readingAt}
 use Rattle.demands.specs.Numbers.{isMisplaced, isUnaligned}

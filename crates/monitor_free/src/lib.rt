@@ -7,6 +7,7 @@ use map::Address;
 use map::Map;
 use monitor_base::Answer;
 use monitor_base::Ending;
+use monitor_base::guard::checked;
 use monitor_base::guard::refusal;
 use monitor_free_check::check;
 
@@ -15,6 +16,10 @@ pub fn free(map: Map, heap: &mut [u8], primary: &[u8], secondary: &[u8], base: A
     ensures { λ r. ⌜ outcome r (now (heap .exit)) (now (primary .entry)) (now (secondary .entry))
         ≡ call map (plain.free (base .0)) (now (heap .entry), (now (primary .entry), now (secondary .entry))) ⌝ }
 {
+    let k = checked(map, heap.len(), primary.len(), secondary.len());
+    if k != 0 {
+        return refusal(k);
+    }
     match check(map, heap, primary, secondary, base) {
         Ending::Block(p, length) => {
             heap_place::erase(heap, p, length);

@@ -7,6 +7,7 @@ use map::Address;
 use map::Map;
 use monitor_base::Answer;
 use monitor_base::Ending;
+use monitor_base::guard::checked;
 use monitor_base::guard::refusal;
 use monitor_remove_check::check;
 
@@ -21,6 +22,10 @@ pub fn remove(
     ensures { λ r. ⌜ outcome r (now (heap .entry)) (now (primary .exit)) (now (secondary .exit))
         ≡ call map (plain.remove (base .0)) (now (heap .entry), (now (primary .entry), now (secondary .entry))) ⌝ }
 {
+    let k = checked(map, heap.len(), primary.len(), secondary.len());
+    if k != 0 {
+        return refusal(k);
+    }
     match check(map, heap, primary, secondary, base) {
         Ending::Block(p, length) => {
             stack_place::erase(primary, secondary, p, length);

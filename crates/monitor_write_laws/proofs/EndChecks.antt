@@ -29,7 +29,7 @@ use Rattle.monitor_base.proofs.CallLaws.{call-step}
 use Rattle.monitor_base.proofs.LocatingLaws.{heap-there, stack-there, read-heap, read-stack, out-inside}
 use Rattle.monitor_write_laws.specs.Checks.{endingOf, freedBy, removedBy, blockLength, Freeable, Removable}
 use Rattle.monitor_write_laws.proofs.StepLaws.{free-reads, free-4, free-15, free-null, remove-reads, remove-4}
-use Rattle.monitor_write_laws.proofs.AtLaws.{At, there, ended-at}
+use Rattle.monitor_write_laws.proofs.AtLaws.{there, ended-at}
 use Rattle.monitor_write_laws.proofs.AreaLaws.{heap-at, stack-at, heap-first, stack-first}
 
 -- a block is as long wherever its area starts

@@ -11,8 +11,7 @@ use monitor_base::Answer;
 use monitor_base::Ending;
 use monitor_base::guard::refusal;
 use monitor_free_check::check;
-use origins_base::guard::cells_fit;
-use origins_base::guard::unfit;
+use origins_base::guard::checked;
 
 // Zeroes the shadow of the block and of its header, and each cell that touches the block. Address 0, C's null pointer, is accepted and nothing changes; of
 // the stack nothing may be freed.
@@ -29,8 +28,16 @@ pub fn free(
         ≡ call map (plain (calls.free (base .0)))
         (lent (now (heap .entry)) (now (primary .entry)) (now (secondary .entry)) (now («heap_cells» .entry)) (now («stack_cells» .entry)) k)) ⌝ }
 {
-    if !cells_fit(map, heap_cells.len(), stack_cells.len()) {
-        return refusal(unfit(map));
+    let k = checked(
+        map,
+        heap.len(),
+        primary.len(),
+        secondary.len(),
+        heap_cells.len(),
+        stack_cells.len(),
+    );
+    if k != 0 {
+        return refusal(k);
     }
     match check(map, heap, primary, secondary, base) {
         Ending::Block(p, length) => {

@@ -1,7 +1,7 @@
 -- Cells by where an address lies: its area, and its position there. Assumes nothing.
 use mathlib.Core.Path.{_≡_}
 use mathlib.Core.List.{List}
-use Prim.Native.Nat.{ℕ, _+_, _*_, _%_, _≤_, _<_}
+use Prim.Native.Nat.{ℕ, _*_, _%_, _≤_, _<_}
 use lib.ListN.{length}
 use Rattle.plain.specs.Reading.{Reading, nothing, block, damaged}
 use Rattle.monitor_base.specs.declared.Located.{Located}

@@ -23,7 +23,7 @@ use Rattle.plain.proofs.KeptLaws.{remove-placed, marks-placed}
 use Rattle.plain.proofs.RunLaws.{Joins, begun-proper, free-accepted, remove-accepted, keep-begin}
 use Rattle.plain.proofs.RunLaws as lists
 use Rattle.origins_list.specs.Call.{Call, plain, point, copy, live, isCell, isOrigin, ends, leaves, roleOf}
-use Rattle.origins_list.specs.Cells.{put, cut}
+use Rattle.origins_list.specs.Cells.{put}
 use Rattle.origins_list.specs.OriginList.{OriginList, originFound, originHeld, canPoint, byOrigins, withoutBlock, originsAfter, originAnswer, originStep}
 use Rattle.origins_list.specs.History.{History}
 use Rattle.origins_list.proofs.SpotLaws.{Spot, vacant, taken, spot, spans, hasFour, without, there, any-four, spot-marks, spot-insert, spot-alone, spot-remove, spot-base}

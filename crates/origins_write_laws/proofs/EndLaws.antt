@@ -1,6 +1,6 @@
 -- What a free and a remove come to in this form, by what the plain form's check found. Assumes nothing.
 use mathlib.Core.Path.{_≡_, refl, sym, ap, _∙_}
-use mathlib.Core.Bool.{true, false}
+use mathlib.Core.Bool.{true}
 use mathlib.Core.Logic.{_≢_}
 use Prim.Native.Nat.{ℕ, zero, suc, _+_, _*_, _%_, _≤_}
 use native.Mathlib.Omega.{arith}
@@ -12,13 +12,13 @@ use Rattle.map.specs.Map.{goodMap}
 use Rattle.map.proofs.MapLaws.{zero-outside}
 use Rattle.plain.specs.Areas.{mapRules}
 use Rattle.plain.specs.Call as base
-use Rattle.plain.specs.Call.{free, remove, Answer, number, refusal, done}
+use Rattle.plain.specs.Call.{free, Answer, number, refusal, done}
 use Rattle.plain.specs.ShadowCalls.{shadowAnswer}
 use Rattle.shadows.specs.Shadows.{Shadows, lengthsFit, shadowOps}
 use Rattle.monitor_base.specs.Calls as plainForm
 use Rattle.monitor_base.specs.Locating.{Lies}
 use Rattle.monitor_base.specs.declared.Located.{Located}
-use Rattle.monitor_base.specs.declared.Located.the-variants.{Heap, Stack, Outside}
+use Rattle.monitor_base.specs.declared.Located.the-variants.{Heap, Outside}
 use Rattle.monitor_write_laws.specs.Checks.{blockLength}
 use Rattle.monitor_write_laws.proofs.CheckLaws.{told, number-good}
 use Rattle.cells_layout.specs.Cells.{Cells, cellsFit, cellOps}

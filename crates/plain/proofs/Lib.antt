@@ -18,6 +18,7 @@ pub mod AnswerLaws
 pub mod RunLaws
 pub mod BegunLaws
 pub mod ClimbLaws
+pub mod EndLaws
 pub mod MarkedLaws
 pub mod TotalLaws
 pub mod StampedLaws

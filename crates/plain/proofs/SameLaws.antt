@@ -11,21 +11,21 @@ use borrow.Author.Tests.{eq-eqb, ne-eqb, eqb-true, eqb-false}
 use Rattle.number.specs.Bits.{bit}
 use Rattle.number.proofs.TestLaws.{Test, is-true, is-false, test, and-true, same-test, false-of}
 use Rattle.plain.specs.Block.{Block, len, contains, holds, hasBase, isWritten, allWritten}
-use Rattle.plain.specs.Blocks as blocks
-use Rattle.plain.specs.Blocks.{find, found, any, markOne, markAll}
+use Rattle.plain.specs.Blocks.{find, found, markOne, markAll}
 use Rattle.plain.specs.Rules.{Rules, Placed, Sound}
 use Rattle.plain.specs.Reading.{Reading, nothing, block, says, lookup}
 use Rattle.plain.specs.Ops.{Ops, markRange, rangeMarked, readAny}
 use Rattle.plain.specs.Images.{Images}
-use Rattle.plain.specs.Call.{Call, clear, begin, free, remove, written, ask, valid, initialised, next, audit, place, Answer, done, yesNo, firstOf, unless}
+use Rattle.plain.specs.Call.{Call, clear, begin, free, remove, written, ask, valid, initialised, next, audit, place, Answer, done, yesNo, unless}
 use Rattle.plain.specs.Placing.{noneFits, placeAnswer}
 use Rattle.plain.specs.PlainList.{askOf, nextOf, plainStep}
-use Rattle.plain.specs.ShadowCalls.{isDamaged, isBlock, isFirst, inOne, isLiteral, sameBlock, lengthOf, stop, climb, askAnswer, nextAnswer, byBase, erased, shadowStep}
+use Rattle.plain.specs.ShadowCalls.{isDamaged, isBlock, inOne, isLiteral, sameBlock, stop, climb, askAnswer, nextAnswer, shadowStep}
 use Rattle.plain.proofs.BlockLaws.{contains-true, true-contains, holds-true, true-holds, holds-one, base-holds, offset-test}
 use Rattle.plain.proofs.FindLaws.{keepIf, find-at, find-facts, find-other, first-here, none-top, first-up, mark-find}
 use Rattle.plain.proofs.KeptLaws.{mark-placed}
 use Rattle.plain.proofs.ReadBackLaws.{image-reads}
 use Rattle.plain.proofs.BeginLaws.{begin-same}
+use Rattle.plain.proofs.EndLaws.{free-same, remove-same}
 
 -- the reading that a search ends with
 abbrev start : Option Block → Reading
@@ -76,49 +76,6 @@ module _ {S : Type 0} (R : Rules) (G : Sound R) (O : Ops S) (image : List Block 
         go true u = refl
         go false true = refl
         go false false = refl
-
-    -- a block ends that is to have this base
-    ends-same : (x : ℕ) → R .inside x ≡ true
-        → unless (firstOf (byBase R O (image bs) x)) (image bs) (erased R O (image bs) x, done) ≡ both (unless (cond (not (any (hasBase x) bs)) 7 0) bs (blocks.remove x bs, done))
-    ends-same x t = ap by (reads x) ∙ rw q (go (find (contains x) bs) refl)
-      where
-        by : Reading → S × Answer
-        by r = unless (cond (isDamaged r) 8 (cond (not (isFirst r)) 7 0)) (image bs) (O .erase (image bs) x (lengthOf r), done)
-
-        q : find (hasBase x) bs ≡ keepIf (hasBase x) (find (contains x) bs)
-        q = find-at R G bs 0 x (hasBase x) P (λ c l w. base-holds x c l w)
-
-        go : (o : Option Block) → find (contains x) bs ≡ o
-            → by (says x o) ≡ both (unless (cond (not (found (keepIf (hasBase x) o))) 7 0) bs (blocks.remove x bs, done))
-        go none e = refl
-        go (some b) e = at-block (test (hasBase x b))
-          where
-            at-block : Test (hasBase x b)
-                → unless (cond (not (eqb (x - b .base) 0)) 7 0) (image bs) (O .erase (image bs) x (len b), done)
-                ≡ both (unless (cond (not (found (cond (hasBase x b) (some b) none))) 7 0) bs (blocks.remove x bs, done))
-            at-block (is-true h) =
-                let z : b .base ≡ x = eqb-true (b .base) x h in
-                rw (h, eq-eqb (x - b .base) 0 (omega arith), I .image-erase bs P x b t (q ∙ rw (e, h)))
-            at-block (is-false h) = rw (h, ne-eqb (x - b .base) 0 (λ z. eqb-false (b .base) x h (omega (arith, facts x b e))))
-
-    free-same : (x : ℕ) → shadowStep R O (free x) (image bs) ≡ both (plainStep R (free x) bs)
-    unfolding shadowStep plainStep
-    free-same zero = refl
-    free-same (suc y) = go (test (R .inside (suc y))) (test (R .heap (suc y)))
-      where
-        go : Test (R .inside (suc y)) → Test (R .heap (suc y)) → shadowStep R O (free (suc y)) (image bs) ≡ both (plainStep R (free (suc y)) bs)
-        go (is-false t) h = rw t
-        go (is-true t) (is-false h) = rw (t, h)
-        go (is-true t) (is-true h) = rw (t, h) (ends-same (suc y) t)
-
-    remove-same : (x : ℕ) → shadowStep R O (remove x) (image bs) ≡ both (plainStep R (remove x) bs)
-    unfolding shadowStep plainStep
-    remove-same x = go (test (R .inside x)) (test (R .heap x))
-      where
-        go : Test (R .inside x) → Test (R .heap x) → shadowStep R O (remove x) (image bs) ≡ both (plainStep R (remove x) bs)
-        go (is-false t) h = rw t
-        go (is-true t) (is-true h) = rw (t, h)
-        go (is-true t) (is-false h) = rw (t, h) (ends-same x t)
 
     -- ---- ranges of bytes
 
@@ -308,8 +265,8 @@ module _ {S : Type 0} (R : Rules) (G : Sound R) (O : Ops S) (image : List Block 
     pub step-same : (c : Call) → shadowStep R O c (image bs) ≡ both (plainStep R c bs)
     step-same clear = clear-same bs P
     step-same (begin h b l) = begin-same R O image I bs P h b l
-    step-same (free x) = free-same bs P x
-    step-same (remove x) = remove-same bs P x
+    step-same (free x) = free-same R G O image I bs P x
+    step-same (remove x) = remove-same R G O image I bs P x
     step-same (written a n) = written-same a n
     step-same (ask a) = ask-same bs P a
     step-same (valid w a n from) = valid-same bs P w a n from

@@ -1,35 +1,26 @@
 -- `monitor_free_check::check` meets its contract: one arm for each area. Assumes nothing.
-use mathlib.Core.Path.{_≡_, sym, _∙_}
-use mathlib.Core.Bool.{true}
 use native.Mathlib.Omega.{arith}
 use denote.Ref.{now}
-use Rattle.map.specs.Map.{goodMap}
-use Rattle.plain.specs.Call.{free}
-use Rattle.shadows.specs.Shadows.{Shadows, lengthsFit}
+use Rattle.shadows.specs.Shadows.{Shadows}
 use Rattle.monitor_base.specs.Locating.{Lies}
 use Rattle.monitor_base.specs.declared.Located.{Located}
 use Rattle.monitor_base.specs.declared.Located.the-variants.{Heap, Stack, Outside}
-use Rattle.monitor_base.proofs.CallLaws.{call-early, early-good}
 use Rattle.monitor_base.proofs.LocatingLaws.{heap-there}
 use Rattle.monitor_write_laws.proofs.EndChecks.{null-freed, outside-freed, stack-freed, heap-freed, freeable}
 use borrow.Author.Needs.{needs}
 use Rattle.monitor_free_check.proofs.check.Statement.{statement}
 use Rattle.monitor_free_check.proofs.check.Tie as tie
 
--- the function's entry, from where map and lengths are checked
-abbrev entry : tie.After-checked → tie.Start
+-- the function's entry, from where the address is located
+abbrev entry : tie.After-locate → tie.Start
 entry c = c .before .before .before .before
 
 abbrev shadows : tie.Start → Shadows
 shadows c = (now (c .args .heap), (now (c .args .primary), now (c .args .secondary)))
 
-good-fit : (c : tie.Else1) → (goodMap (entry (c .before) .args .map) ≡ true) × (lengthsFit (entry (c .before) .args .map) (shadows (entry (c .before))) ≡ true)
-unfolding lengthsFit
-good-fit c = early-good (entry (c .before) .args .map) (shadows (entry (c .before))) (sym (c .if1 .left) ∙ c .before .checked .ensures)
-
 -- the address lies in the heap, in the stack, in neither
 abbrev lies : tie.After-locate → Located → Type 0
-lies c = let e = entry (c .before .before) in Lies (e .args .map) (e .args .base .0)
+lies c = let e = entry c in Lies (e .args .map) (e .args .base .0)
 
 in-heap : (c : tie.After-p) → lies (c .before .before) (Heap (c .p .given .0 .0))
 in-heap c = rw (c .p .given .1) at (c .before .before .locate .ensures)
@@ -39,15 +30,6 @@ in-stack c = rw (c .enum-told .given .1) at (c .before .before .locate .ensures)
 
 outside : (c : tie.After-enum-told2) → lies (c .before .before) Outside
 outside c = rw (c .enum-told2 .given .1) at (c .before .before .locate .ensures)
-
-checked-requires : tie.Need-checked-requires
-checked-requires c κs = search needs
-
-returns : tie.Need-returns
-unfolding lengthsFit
-returns c =
-    let e = entry (c .before) in
-    (sym (call-early (e .args .map) (free (e .args .base .0)) (shadows e) _ (c .before .checked .ensures) (c .if1 .taken)), λ z. absurd (c .if1 .taken z))
 
 locate-requires : tie.Need-locate-requires
 locate-requires c κs = search needs
@@ -59,8 +41,8 @@ read-requires : tie.Need-read-requires
 read-requires c κs =
     let p = c .before in
     let l = p .before .before in
-    let e = entry (l .before .before) in
-    let g = good-fit (l .before) in
+    let e = entry l in
+    let g = e .pre in
     let h = in-heap p in
     heap-there (e .args .map) (shadows e) (g .0) (g .1) (e .args .base .0) _ (h .0) (h .1)
 
@@ -73,52 +55,50 @@ enum-told c = search needs
 enum-told-2 : tie.Need-enum-told-2
 enum-told-2 c = search needs
 
-returns-2 : tie.Need-returns-2
-returns-2 c =
+returns : tie.Need-returns
+returns c =
     let o = c .before .before in
     let l = o .before .before in
-    let e = entry (l .before .before) in
-    let g = good-fit (l .before) in
-    (null-freed (e .args .map) (shadows e) (e .args .base .0) (g .0) (g .1) (c .if2 .taken), λ z. c .if2 .taken)
+    let e = entry l in
+    let g = e .pre in
+    (null-freed (e .args .map) (shadows e) (e .args .base .0) (g .0) (g .1) (c .if1 .taken), λ z. c .if1 .taken)
 
-returns-3 : tie.Need-returns-3
-returns-3 c =
+returns-2 : tie.Need-returns-2
+returns-2 c =
     let x = c .before in
     let p = x .before .before in
     let l = p .before .before in
-    let e = entry (l .before .before) in
-    let g = good-fit (l .before) in
+    let e = entry l in
+    let g = e .pre in
     let h = in-heap p in
     rw (c .ending .ensures, x .read .ensures) (heap-freed (e .args .map) (shadows e) (e .args .base .0) (g .0) (g .1) _ h, freeable (e .args .map) (shadows e) (e .args .base .0) (g .0) (g .1) _ h)
 
-returns-4 : tie.Need-returns-4
-returns-4 c =
+returns-3 : tie.Need-returns-3
+returns-3 c =
     let l = c .before .before in
-    let e = entry (l .before .before) in
-    let g = good-fit (l .before) in
+    let e = entry l in
+    let g = e .pre in
     (stack-freed (e .args .map) (shadows e) (e .args .base .0) (g .0) (g .1) _ (in-stack c), λ z. absurd (omega arith))
 
-returns-5 : tie.Need-returns-5
-returns-5 c =
+returns-4 : tie.Need-returns-4
+returns-4 c =
     let o = c .before .before in
     let l = o .before .before in
-    let e = entry (l .before .before) in
-    let g = good-fit (l .before) in
-    (outside-freed (e .args .map) (shadows e) (e .args .base .0) (g .0) (g .1) (c .if2 .left) (outside o), λ z. absurd (omega arith))
+    let e = entry l in
+    let g = e .pre in
+    (outside-freed (e .args .map) (shadows e) (e .args .base .0) (g .0) (g .1) (c .if1 .left) (outside o), λ z. absurd (omega arith))
 
 pub check-spec : {M : Type 1} → statement M
 check-spec =
     tie.close
     (tie.spec
-    checked-requires
-    returns
     locate-requires
     enum-known-p
     read-requires
     ending-requires
     enum-told
     enum-told-2
+    returns
     returns-2
     returns-3
-    returns-4
-    returns-5)
+    returns-4)

@@ -1,28 +1,39 @@
--- `monitor_remove::remove` meets its contract: the check, then the effect on the block that it found. Assumes nothing.
-use mathlib.Core.Path.{_≡_, ap, _∙_}
+-- `monitor_remove::remove` meets its contract: map and lengths, the check, then the effect on the block that it found. Assumes nothing.
+use mathlib.Core.Path.{_≡_, sym, ap, _∙_}
+use mathlib.Core.Bool.{true}
 use denote.Ref.{now}
+use Rattle.map.specs.Map.{goodMap}
 use Rattle.plain.specs.Call.{remove, done}
 use Rattle.stack_layout.specs.Ops.{StackShadows}
-use Rattle.shadows.specs.Shadows.{Shadows}
+use Rattle.shadows.specs.Shadows.{Shadows, lengthsFit}
 use Rattle.monitor_base.specs.Calls.{call}
 use Rattle.monitor_base.specs.declared.Ending.{Ending}
 use Rattle.monitor_base.specs.declared.Ending.the-variants.{Block, Settled}
+use Rattle.monitor_base.proofs.CallLaws.{call-early, early-good}
 use Rattle.monitor_write_laws.specs.Checks.{removedBy, Removable}
 use borrow.Author.Needs.{needs}
 use Rattle.monitor_remove.proofs.remove.Statement.{statement}
 use Rattle.monitor_remove.proofs.remove.Tie as tie
 
--- the function's entry
-abbrev entry : tie.After-check → tie.Start
-entry c = c .before .before .before .before .before .before
+-- the function's entry, from where map and lengths are checked
+abbrev entry : tie.After-checked → tie.Start
+entry c = c .before .before .before .before
+
+-- from the check: where they are right
+abbrev right : tie.After-check → tie.Else1
+right c = c .before .before .before
 
 abbrev shadows : tie.Start → Shadows
 shadows c = (now (c .args .heap), (now (c .args .primary), now (c .args .secondary)))
 
+good-fit : (c : tie.Else1) → (goodMap (entry (c .before) .args .map) ≡ true) × (lengthsFit (entry (c .before) .args .map) (shadows (entry (c .before))) ≡ true)
+unfolding lengthsFit
+good-fit c = early-good (entry (c .before) .args .map) (shadows (entry (c .before))) (sym (c .if1 .left) ∙ c .before .checked .ensures)
+
 -- what the check says of what it found
 abbrev Found : tie.After-check → Ending → Type 0
 Found c r =
-    let e = entry c in
+    let e = entry (right c .before) in
     (removedBy (shadows e) r ≡ call (e .args .map) (remove (e .args .base .0)) (shadows e)) × Removable (e .args .map) (shadows e) (e .args .base .0) r
 
 block-found : (c : tie.After-p) → Found (c .before .before) (Block (c .p .given .0 .0) (c .p .given .0 .1 .0))
@@ -31,8 +42,21 @@ block-found c = rw (c .p .given .1) at (c .before .before .check .ensures)
 settled : (c : tie.After-number) → Found (c .before .before) (Settled (c .number .given .0 .0))
 settled c = rw (c .number .given .1) at (c .before .before .check .ensures)
 
+checked-requires : tie.Need-checked-requires
+checked-requires c κs = search needs
+
+refusal-requires : tie.Need-refusal-requires
+refusal-requires c κs = search needs
+
+returns : tie.Need-returns
+unfolding lengthsFit
+returns c =
+    let i = c .before in
+    let e = entry (i .before) in
+    rw (c .refusal .ensures) (sym (call-early (e .args .map) (remove (e .args .base .0)) (shadows e) _ (i .before .checked .ensures) (i .if1 .taken)))
+
 check-requires : tie.Need-check-requires
-check-requires c κs = search needs
+check-requires c κs = good-fit (c .before .before)
 
 enum-known-p : tie.Need-enum-known-p
 enum-known-p c = search needs
@@ -40,14 +64,14 @@ enum-known-p c = search needs
 erase-requires : tie.Need-erase-requires
 erase-requires c κs = block-found (c .before .before .before) .1 .1
 
-refusal-requires : tie.Need-refusal-requires
-refusal-requires c κs = search needs
+refusal-requires-2 : tie.Need-refusal-requires-2
+refusal-requires-2 c κs = search needs
 
 enum-known-number : tie.Need-enum-known-number
 enum-known-number c = search needs
 
-refusal-requires-2 : tie.Need-refusal-requires-2
-refusal-requires-2 c κs = search needs
+refusal-requires-3 : tie.Need-refusal-requires-3
+refusal-requires-3 c κs = search needs
 
 same-length : tie.Need-same-length
 same-length c = search needs
@@ -55,12 +79,12 @@ same-length c = search needs
 same-length-2 : tie.Need-same-length-2
 same-length-2 c = search needs
 
-returns : tie.Need-returns
-returns c =
+returns-2 : tie.Need-returns-2
+returns-2 c =
     let x = c .before .before .before .before .before in
     let p = x .before .before .before .before in
-    let e = entry (p .before .before) in
-    rw (c .refusal .ensures) (ap (λ (t : StackShadows). ((now (e .args .heap), t), done)) (x .erase .ensures) ∙ block-found p .0)
+    let e = entry (right (p .before .before) .before) in
+    rw (c .refusal2 .ensures) (ap (λ (t : StackShadows). ((now (e .args .heap), t), done)) (x .erase .ensures) ∙ block-found p .0)
 
 same-length-3 : tie.Need-same-length-3
 same-length-3 c = search needs
@@ -68,22 +92,25 @@ same-length-3 c = search needs
 same-length-4 : tie.Need-same-length-4
 same-length-4 c = search needs
 
-returns-2 : tie.Need-returns-2
-returns-2 c = rw (c .refusal2 .ensures) (settled (c .before .before) .0)
+returns-3 : tie.Need-returns-3
+returns-3 c = rw (c .refusal3 .ensures) (settled (c .before .before) .0)
 
 pub remove-spec : {M : Type 1} → statement M
 remove-spec =
     tie.close
     (tie.spec
+    checked-requires
+    refusal-requires
+    returns
     check-requires
     enum-known-p
     erase-requires
-    refusal-requires
-    enum-known-number
     refusal-requires-2
+    enum-known-number
+    refusal-requires-3
     same-length
     same-length-2
-    returns
+    returns-2
     same-length-3
     same-length-4
-    returns-2)
+    returns-3)

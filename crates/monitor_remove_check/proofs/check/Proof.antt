@@ -1,35 +1,26 @@
 -- `monitor_remove_check::check` meets its contract: one arm for each area. Assumes nothing.
-use mathlib.Core.Path.{_≡_, sym, _∙_}
-use mathlib.Core.Bool.{true}
 use native.Mathlib.Omega.{arith}
 use denote.Ref.{now}
-use Rattle.map.specs.Map.{goodMap}
-use Rattle.plain.specs.Call.{remove}
-use Rattle.shadows.specs.Shadows.{Shadows, lengthsFit}
+use Rattle.shadows.specs.Shadows.{Shadows}
 use Rattle.monitor_base.specs.Locating.{Lies}
 use Rattle.monitor_base.specs.declared.Located.{Located}
 use Rattle.monitor_base.specs.declared.Located.the-variants.{Heap, Stack, Outside}
-use Rattle.monitor_base.proofs.CallLaws.{call-early, early-good}
 use Rattle.monitor_base.proofs.LocatingLaws.{stack-there}
 use Rattle.monitor_write_laws.proofs.EndChecks.{outside-removed, heap-removed, stack-removed, removable}
 use borrow.Author.Needs.{needs}
 use Rattle.monitor_remove_check.proofs.check.Statement.{statement}
 use Rattle.monitor_remove_check.proofs.check.Tie as tie
 
--- the function's entry, from where map and lengths are checked
-abbrev entry : tie.After-checked → tie.Start
+-- the function's entry, from where the address is located
+abbrev entry : tie.After-locate → tie.Start
 entry c = c .before .before .before .before
 
 abbrev shadows : tie.Start → Shadows
 shadows c = (now (c .args .heap), (now (c .args .primary), now (c .args .secondary)))
 
-good-fit : (c : tie.Else1) → (goodMap (entry (c .before) .args .map) ≡ true) × (lengthsFit (entry (c .before) .args .map) (shadows (entry (c .before))) ≡ true)
-unfolding lengthsFit
-good-fit c = early-good (entry (c .before) .args .map) (shadows (entry (c .before))) (sym (c .if1 .left) ∙ c .before .checked .ensures)
-
 -- the address lies in the stack, in the heap, in neither
 abbrev lies : tie.After-locate → Located → Type 0
-lies c = let e = entry (c .before .before) in Lies (e .args .map) (e .args .base .0)
+lies c = let e = entry c in Lies (e .args .map) (e .args .base .0)
 
 in-stack : (c : tie.After-p) → lies (c .before .before) (Stack (c .p .given .0 .0))
 in-stack c = rw (c .p .given .1) at (c .before .before .locate .ensures)
@@ -39,15 +30,6 @@ in-heap c = rw (c .enum-told .given .1) at (c .before .before .locate .ensures)
 
 outside : (c : tie.After-enum-told2) → lies (c .before .before) Outside
 outside c = rw (c .enum-told2 .given .1) at (c .before .before .locate .ensures)
-
-checked-requires : tie.Need-checked-requires
-checked-requires c κs = search needs
-
-returns : tie.Need-returns
-unfolding lengthsFit
-returns c =
-    let e = entry (c .before) in
-    (sym (call-early (e .args .map) (remove (e .args .base .0)) (shadows e) _ (c .before .checked .ensures) (c .if1 .taken)), c .if1 .taken)
 
 locate-requires : tie.Need-locate-requires
 locate-requires c κs = search needs
@@ -59,8 +41,8 @@ read-requires : tie.Need-read-requires
 read-requires c κs =
     let p = c .before in
     let l = p .before .before in
-    let e = entry (l .before .before) in
-    let g = good-fit (l .before) in
+    let e = entry l in
+    let g = e .pre in
     let h = in-stack p in
     stack-there (e .args .map) (shadows e) (g .0) (g .1) (e .args .base .0) _ (h .0) (h .1)
 
@@ -73,42 +55,40 @@ enum-told c = search needs
 enum-told-2 : tie.Need-enum-told-2
 enum-told-2 c = search needs
 
-returns-2 : tie.Need-returns-2
-returns-2 c =
+returns : tie.Need-returns
+returns c =
     let x = c .before in
     let p = x .before .before in
     let l = p .before .before in
-    let e = entry (l .before .before) in
-    let g = good-fit (l .before) in
+    let e = entry l in
+    let g = e .pre in
     let h = in-stack p in
     rw (c .ending .ensures, x .read .ensures) (stack-removed (e .args .map) (shadows e) (e .args .base .0) (g .0) (g .1) _ h, removable (e .args .map) (shadows e) (e .args .base .0) (g .0) (g .1) _ h)
+
+returns-2 : tie.Need-returns-2
+returns-2 c =
+    let l = c .before .before in
+    let e = entry l in
+    let g = e .pre in
+    (heap-removed (e .args .map) (shadows e) (e .args .base .0) (g .0) (g .1) _ (in-heap c), λ z. omega arith)
 
 returns-3 : tie.Need-returns-3
 returns-3 c =
     let l = c .before .before in
-    let e = entry (l .before .before) in
-    let g = good-fit (l .before) in
-    (heap-removed (e .args .map) (shadows e) (e .args .base .0) (g .0) (g .1) _ (in-heap c), λ z. omega arith)
-
-returns-4 : tie.Need-returns-4
-returns-4 c =
-    let l = c .before .before in
-    let e = entry (l .before .before) in
-    let g = good-fit (l .before) in
+    let e = entry l in
+    let g = e .pre in
     (outside-removed (e .args .map) (shadows e) (e .args .base .0) (g .0) (g .1) (outside c), λ z. omega arith)
 
 pub check-spec : {M : Type 1} → statement M
 check-spec =
     tie.close
     (tie.spec
-    checked-requires
-    returns
     locate-requires
     enum-known-p
     read-requires
     ending-requires
     enum-told
     enum-told-2
+    returns
     returns-2
-    returns-3
-    returns-4)
+    returns-3)
