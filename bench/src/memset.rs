@@ -234,7 +234,7 @@ mod tests {
 
     /// Two bytes for each byte of whole cells.
     #[test]
-    fn freed_cells() {
+    fn ended_cells() {
         let state = roomy(4);
         for (area, block) in [(0, &state.heap_blocks()[3]), (1, &state.stack_blocks()[3])] {
             let end = state.to_end(block.base);

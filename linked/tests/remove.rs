@@ -64,7 +64,7 @@ fn every_address_on_any_bytes() {
     }
 }
 
-/// Every lent length that is not right, and maps that break a rule, before 15 and 4.
+/// Lent lengths that are not right, and maps that break a rule, before 15 and 4.
 #[test]
 fn bad_maps_and_wrong_lengths() {
     let mut met = [0; 16];

@@ -60,7 +60,7 @@ fn every_example_of_the_open_points() {
 
 #[test]
 fn every_clause() {
-    assert_eq!(check("origins.txt"), 338);
+    assert_eq!(check("origins.txt"), 341);
 }
 
 #[test]

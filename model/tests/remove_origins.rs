@@ -142,6 +142,6 @@ fn they_are_drawn_often() {
     // Free: 0, 4, 7, 15 and on any state 8; remove: the same without 15.
     assert_eq!(met.len(), 9 + 7, "{met:?}");
     assert!(met.values().all(|&count| count > 100), "{met:?}");
-    // Of 40,000 calls as many end a block of the stack as free did before.
+    // Of 40,000 calls many end a block of the stack.
     assert!(met[&("run", true, 0)] > 1000, "{met:?}");
 }

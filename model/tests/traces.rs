@@ -10,7 +10,7 @@ use common::{data, ending};
 use model::block::{footprint, meet, Block};
 use model::call::Call;
 use model::map::Area;
-use model::plain::{List, PlainList};
+use model::plain::{totals, List, PlainList};
 use model::plain_btree::PlainTree;
 use model::program::{decode, encode, run, run_on, Record};
 use model::recorded::{lines_with_removals, with_removals};
@@ -139,6 +139,10 @@ fn because(call: Call, now: &PlainList, then: &PlainList, lines: [&str; 2]) -> B
         let holder = then.blocks().iter().find(|b| b.holds(address, n));
         holder.is_some_and(|block| !in_list(now, block))
     };
+    let counted = |list: &PlainList| {
+        let [heap, stack, live, written] = totals(list.map(), list.blocks());
+        format!("9 0 {heap} {stack} {live} {written}")
+    };
     match (call, lines) {
         (Call::Free { base }, ["3 15", "3 0"]) if ending(now.map(), base) != call => {
             Because::Refused
@@ -148,7 +152,7 @@ fn because(call: Call, now: &PlainList, then: &PlainList, lines: [&str; 2]) -> B
         (Call::Initialised { address, n }, ["7 0 0", "7 0 1"]) if missing(address, n) => {
             Because::Missing
         }
-        (Call::Audit, _) => Because::Counted,
+        (Call::Audit, told) if told == [now, then].map(counted) => Because::Counted,
         _ => panic!("{call:?}: {lines:?}"),
     }
 }

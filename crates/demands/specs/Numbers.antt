@@ -102,8 +102,7 @@ noneBegins rd a (suc n) = not (isFirst (rd a)) && noneBegins rd (suc a) n
 
 -- 8, "a reading is damaged (for valid, either reading; for written and initialised, the first byte's; for next, one met before an answer);
 -- for audit, no image": all but clear, record and, as it takes no reading, place. S-2: free of address 0 takes no reading. S-7: of a stack
--- address free is 15 before it. What audit finds is no
--- image: Demand2.antt, `AuditOnly` and `AuditRefuses`
+-- address free is 15 before it. What audit finds is no image: Demand2.antt, `AuditOnly` and `AuditRefuses`
 abbrev pub damageMet : Map → Call → Shadows → Bool
 damageMet m clear s = false
 damageMet m (begin h b l) s = false
@@ -119,8 +118,7 @@ damageMet m audit s = isNone (shadowOps m .audit s)
 damageMet m (place l k) s = false
 
 -- 7, "no block there; for free, base not a block's first byte; for written, range not in one block; for next, none follows": free, written,
--- ask, next. S-2: not free of address 0. S-7: kind 16 "removes a stack block as free used to". "never where 8 holds" is in
--- the order of `rows`
+-- ask, next. S-2: not free of address 0. S-7: kind 16 "removes a stack block as free used to". "never where 8 holds" is in the order of `rows`
 abbrev pub blockMissed : Map → Call → Shadows → Bool
 blockMissed m clear s = false
 blockMissed m (begin h b l) s = false

@@ -119,8 +119,8 @@ table =
     ∷ []
 
 -- ---- what follows from arguments and map, at the edges. The plain list and the shadows share one definition of 3, 4, 5 and 15 (`byRules`), so that
--- `Demand3.WholeRun` does not decide them; `Demand1.ByTheTable` does, for every input, by a table of its own, and Removals.antt 15 and remove's 4. Here are the numbers themselves, and
--- what no table of numbers says: fields, and the bytes that free of address 0 leaves
+-- `Demand3.WholeRun` does not decide them; `Demand1.ByTheTable` does, for every input, by a table of its own, and Removals.antt 15 and
+-- remove's 4. Here are the numbers themselves, and what no table of numbers says: fields, and the bytes that free of address 0 leaves
 
 unfoldable pub edges : List Sample
 edges =

@@ -1,6 +1,7 @@
 -- Demand 1 for the form with origins, of every call on every input, any map, any lengths, any bytes, any counter: accepted exactly if no row of the
--- table holds, else refused by the first number, in their order (`turn`), whose row holds, with zero fields, and no byte of shadows or cells and no counter altered. Each
--- statement is proved in proofs/Demand1.antt. That the code does what `call` says is the contract of each function of `origins`. Assumes nothing.
+-- table holds, else refused by the first number, in their order (`turn`), whose row holds, with zero fields, and no byte of shadows or cells and no
+-- counter altered. Each statement is proved in proofs/Demand1.antt. That the code does what `call` says is the contract of each function of `origins`.
+-- Assumes nothing.
 use mathlib.Core.Path.{_≡_}
 use mathlib.Core.Logic.{_≢_}
 use mathlib.Core.Bool.{true}

@@ -1,4 +1,4 @@
-// The check of a free, once map and lengths are: it only reads.
+// The check of a free, after that of map and lengths: it only reads.
 ghost use mathlib.Core.Path.{_≡_};
 ghost use mathlib.Core.Bool.{true};
 ghost use Rattle.map.specs.Map.{goodMap};

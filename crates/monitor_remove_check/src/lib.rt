@@ -1,4 +1,4 @@
-// The check of a remove, once map and lengths are: it only reads.
+// The check of a remove, after that of map and lengths: it only reads.
 ghost use mathlib.Core.Path.{_≡_};
 ghost use mathlib.Core.Bool.{true};
 ghost use Rattle.map.specs.Map.{goodMap};

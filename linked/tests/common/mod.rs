@@ -40,9 +40,12 @@ pub fn stated_samples(text: &str) -> usize {
         let Some(Example::On(told)) = example(line) else {
             continue;
         };
-        let mut lent = told.shadows;
+        let mut lent = told.shadows.clone();
         let said = agreed(EXAMPLE_MAP, &mut lent, told.call);
         assert_eq!(said, told.answer, "{line}");
+        if said.number != 0 || told.call.alters_nothing() {
+            assert!(lent == told.shadows, "{line}");
+        }
         let mut stated = lent.clone();
         put(&mut stated, &told.then).expect("bytes of the shadows");
         assert!(lent == stated, "{line}");

@@ -1,4 +1,4 @@
-//! Seeded calls of this form: pointers kept across frees and new recordings in
+//! Seeded calls of this form: pointers kept across the ends of blocks and new recordings in
 //! the same place, copies of them, cells in short blocks, unaligned bases.
 //!
 //! The submodules make states and input files of the same kind.
