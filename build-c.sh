@@ -1,10 +1,10 @@
 #!/usr/bin/env bash
-# Builds the libraries for C programs, of the plain form and of the form with origins, proved before they are built, and says where they and
-# their headers are.
+# Builds the libraries for C programs, of the plain form, the form with origins and the desk form, proved before they are built, and says where
+# they and their headers are.
 set -euo pipefail
 cd "$(dirname "$0")"
 echo "proving and building the libraries; the first time, with every crate below them, this takes minutes" >&2
-for crate in monitor_c origins_c; do
+for crate in monitor_c origins_c desk_c; do
     if ! log=$(rt staticlib "$crate" 2>&1); then
         printf '%s\n' "$log" >&2
         echo "build-c.sh: the library $crate was not built" >&2
@@ -20,5 +20,9 @@ form with origins
   library: $PWD/target/staticlib/liborigins_c.a
   header:  $PWD/include/block_monitor_origins.h
   compile: cc -std=c99 -I$PWD/include program.c $PWD/target/staticlib/liborigins_c.a
+desk form
+  library: $PWD/target/staticlib/libdesk_c.a
+  header:  $PWD/include/block_monitor_desk.h
+  compile: cc -std=c99 -I$PWD/include program.c $PWD/target/staticlib/libdesk_c.a
 guide:     $PWD/docs/C-INTERFACE.md
 END

@@ -10,9 +10,11 @@ cargo test --quiet --release --offline --manifest-path model/Cargo.toml
 rt ci 2>&1 | tee "$log"
 rt staticlib monitor_c
 rt staticlib origins_c
+rt staticlib desk_c
 examples/test-c.sh
 cargo test --quiet --release --offline --manifest-path linked/Cargo.toml
 cargo test --quiet --release --offline --manifest-path linked_origins/Cargo.toml
+cargo test --quiet --release --offline --manifest-path linked_desk/Cargo.toml
 cargo test --quiet --release --offline --manifest-path bench/Cargo.toml
 cargo test --quiet --release --offline --manifest-path calls_text/Cargo.toml
 tail -n 1 "$log"

@@ -1,5 +1,5 @@
-//! Links the archives that `rt staticlib` writes of `origins_c` and of `monitor_c`; or, where BENCH_BEFORE names their folder, a copy of the
-//! latter and beside it an earlier build whose symbols begin with `before_` (before.sh). And place.c, compiled by the C compiler.
+//! Links the archives that `rt staticlib` writes of `origins_c`, of `desk_c` and of `monitor_c`; or, where BENCH_BEFORE names their folder, a copy
+//! of the last and beside it an earlier build whose symbols begin with `before_` (before.sh). And place.c, compiled by the C compiler.
 
 use std::path::{Path, PathBuf};
 use std::process::Command;
@@ -38,6 +38,7 @@ fn main() {
     let here = Path::new(env!("CARGO_MANIFEST_DIR"));
     compile(&here.join("place.c"));
     link(&here.join("../target/staticlib/liborigins_c.a"));
+    link(&here.join("../target/staticlib/libdesk_c.a"));
     let Some(folder) = std::env::var_os("BENCH_BEFORE").map(PathBuf::from) else {
         return link(&here.join("../target/staticlib/libmonitor_c.a"));
     };

@@ -5,7 +5,7 @@
  * taken the place. Each allocation gets a number of its own, its origin. The program tells where it keeps a pointer, in four bytes of its own
  * memory, and when that pointer is set or copied; before it is used, live tells whether the very allocation that it was set to is still there.
  *
- * Link with target/staticlib/liborigins_c.a (./build-c.sh makes it); a program may link both libraries. docs/C-INTERFACE.md has an example for
+ * Link with target/staticlib/liborigins_c.a (./build-c.sh makes it); a program may link the other libraries too. docs/C-INTERFACE.md has an example for
  * each call.
  */
 #ifndef BLOCK_MONITOR_ORIGINS_H
@@ -147,13 +147,7 @@ static inline uint32_t block_monitor_origins_valid_read(const uint32_t map[4], c
  * Name its members, as here: members that later versions add are then zero.
  */
 struct block_monitor_origins {
-    uint32_t map[4]; /* heap start, heap size, stack start, stack size */
-    uint8_t *heap;
-    size_t heap_length;
-    uint8_t *primary;
-    size_t primary_length;
-    uint8_t *secondary;
-    size_t secondary_length;
+    BLOCK_MONITOR_MEMBERS
     uint8_t *heap_cells;
     size_t heap_cells_length;
     uint8_t *stack_cells;
@@ -214,10 +208,7 @@ static inline uint32_t monitor_origins_ask(const struct block_monitor_origins *m
 {
     uint32_t fields[4];
     uint32_t number = block_monitor_origins_ask(BLOCK_MONITOR_ORIGINS_LENT(monitor), address, fields);
-    block->base = fields[0];
-    block->length = fields[1];
-    block->offset = fields[2];
-    block->written = fields[3];
+    *block = block_monitor_block_of(fields);
     return number;
 }
 
@@ -254,10 +245,7 @@ static inline uint32_t monitor_origins_next(const struct block_monitor_origins *
 {
     uint32_t fields[4];
     uint32_t number = block_monitor_origins_next(BLOCK_MONITOR_ORIGINS_LENT(monitor), address, fields);
-    block->base = fields[0];
-    block->length = fields[1];
-    block->offset = 0;
-    block->written = 0;
+    *block = block_monitor_block_of(fields);
     return number;
 }
 
@@ -265,10 +253,7 @@ static inline uint32_t monitor_origins_audit(const struct block_monitor_origins 
 {
     uint32_t fields[4];
     uint32_t number = block_monitor_origins_audit(BLOCK_MONITOR_ORIGINS_LENT(monitor), fields);
-    totals->heap_blocks = fields[0];
-    totals->stack_blocks = fields[1];
-    totals->live_bytes = fields[2];
-    totals->written_bytes = fields[3];
+    *totals = block_monitor_totals_of(fields);
     return number;
 }
 

@@ -2,16 +2,13 @@
 
 use model::block::Block;
 use model::call::Call;
-use model::map::Map;
-use model::plain::List;
-use model::program::{decode, Record};
 use model::random::Random;
-use model::recorded::with_removals;
 
 use crate::lists::Calls;
 use crate::places::{self, Room};
-use crate::state::{filled, roomy, State};
+use crate::state::{filled, roomy, Grid, State, PLAYER};
 use crate::targets::{targets, Target};
+use crate::traces::{self, Run, TRACES};
 
 /// Addresses asked for, in no order.
 pub const QUERIES: usize = 1024;
@@ -28,6 +25,8 @@ pub enum Group {
     Replay,
     /// Places chosen for blocks.
     Gaps,
+    /// The same by two forms, each on blocks of its own: the answers are not the same.
+    OwnGaps,
     /// The calls that only the form with origins has.
     Pointer,
 }
@@ -85,29 +84,29 @@ pub struct Plan {
 pub const FILLED: usize = 0;
 pub const ROOMY: usize = 1;
 
-/// All states and cases; the traces are given as their files.
-pub fn plan(traces: &[(&'static str, Vec<u8>)]) -> Plan {
-    let mut states = vec![filled(1), roomy(1)];
-    let mut cases = readings(&states[FILLED]);
-    cases.extend(markings(&states[FILLED], &states[ROOMY]));
-    cases.extend(places::cases(&states[ROOMY]));
-    cases.extend(searches(&states[ROOMY]));
-    cases.extend(wholes(&states[FILLED]));
-    for (title, file) in traces {
-        let (map, calls) = read_trace(file);
-        states.push(State {
-            title,
-            map,
-            calls: Vec::new(),
-        });
-        let number = states.len() - 1;
-        cases.push(replay(&states[number], number, calls));
-    }
+/// All states and cases.
+pub fn plan() -> Plan {
+    let (states, cases) = cases_on(PLAYER, TRACES.into_iter().map(traces::read));
     Plan {
         states,
         cases,
         targets,
     }
+}
+
+/// The states and cases of blocks that lie on a grid, and the replays of runs whose blocks do.
+pub fn cases_on(grid: Grid, runs: impl Iterator<Item = Run>) -> (Vec<State>, Vec<Case>) {
+    let mut states = vec![filled(grid), roomy(grid)];
+    let mut cases = readings(&states[FILLED]);
+    cases.extend(markings(&states[FILLED], &states[ROOMY]));
+    cases.extend(places::cases(&states[ROOMY]));
+    cases.extend(searches(&states[ROOMY]));
+    cases.extend(wholes(&states[FILLED]));
+    for (state, calls) in runs {
+        cases.push(traces::replay(&state, states.len(), calls));
+        states.push(state);
+    }
+    (states, cases)
 }
 
 /// One call for each of many blocks picked at random: the block, and an offset with room for n bytes below a limit.
@@ -235,58 +234,4 @@ fn wholes(state: &State) -> Vec<Case> {
     let mut clear = Case::new("clear", Group::Whole, FILLED, vec![Call::Clear]);
     clear.after = state.calls.clone();
     vec![audit, clear]
-}
-
-/// A trace's map and its calls, but for the audit, which no peer of E-ACSL's has. The traces are older than remove: where they free a stack
-/// address, that is the remove of now.
-fn read_trace(file: &[u8]) -> (Map, Vec<Call>) {
-    let converted = with_removals(file);
-    let mut file = &converted[..];
-    let mut map = None;
-    let mut calls = Vec::new();
-    while let Some((record, rest)) = decode(file) {
-        match record {
-            Record::Map(found) => map = Some(found),
-            Record::Call(_, Call::Audit) => {}
-            Record::Call(_, call) => calls.push(call),
-        }
-        file = rest;
-    }
-    (map.expect("a trace begins with its map"), calls)
-}
-
-fn replay(state: &State, number: usize, calls: Vec<Call>) -> Case {
-    let mut list = state.list();
-    for &call in &calls {
-        list.step(call);
-    }
-    let left = list.listed();
-    let count = thousands(calls.len() as u32);
-    let title = format!("replay of {} ({count} calls)", state.title);
-    let mut case = Case::new(title, Group::Replay, number, calls);
-    case.after = left.iter().map(|block| state.to_end(block.base)).collect();
-    case
-}
-
-#[cfg(test)]
-mod tests {
-    use super::*;
-
-    /// Each call of a replay is accepted, its blocks' ends too, and those after it leave no block.
-    #[test]
-    fn replays_accepted() {
-        let files = [
-            &include_bytes!("../../model/tests/data/sha1.calls")[..],
-            &include_bytes!("../../model/tests/data/sorts.calls")[..],
-        ];
-        let plan = plan(&files.map(|file| ("a trace", file.to_vec())));
-        let replays = plan.cases.iter().filter(|case| case.group == Group::Replay);
-        for case in replays {
-            let mut list = plan.states[case.state].list();
-            for &call in case.timed.iter().chain(&case.after) {
-                assert_eq!(list.step(call).number, 0, "{call:?}");
-            }
-            assert!(list.listed().is_empty());
-        }
-    }
 }

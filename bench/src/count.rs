@@ -11,10 +11,8 @@ use crate::side::Side;
 /// Instructions of a call, by case and side.
 pub type Counts = Vec<Vec<Option<f64>>>;
 
-/// The words on which this program makes one pass of a plan and ends.
+/// The word on which this program makes one pass of the comparison that is named next, and ends.
 pub const ONE_PASS: &str = "one-pass";
-pub const ONE_PASS_OF_FORMS: &str = "one-pass-of-forms";
-pub const ONE_PASS_OF_GAPS: &str = "one-pass-of-gaps";
 
 pub fn valgrind_there() -> bool {
     let asked = Command::new("valgrind")
@@ -55,19 +53,20 @@ pub fn one_pass(plan: &Plan, sides: &mut [Side]) {
     }
 }
 
-/// The counts of the sides in this program, by running it again, and of the servers.
+/// The counts of the sides in this program, by running it again, and of the servers, whose calls lie in a folder.
 pub fn count(
     plan: &Plan,
-    word: &str,
+    name: &str,
     here: &[Side],
     servers: &[(&'static str, PathBuf)],
+    calls: &Path,
     folder: &Path,
 ) -> Counts {
     let mut counts: Counts = plan.cases.iter().map(|_| Vec::new()).collect();
-    let dumps = fresh(folder, word);
+    let dumps = fresh(folder, name);
     let mut words = callgrind(&dumps);
     let own = std::env::current_exe().expect("this program's path");
-    words.extend([own.display().to_string(), word.into()]);
+    words.extend([own.display().to_string(), ONE_PASS.into(), name.into()]);
     let status = Command::new(&words[0])
         .args(&words[1..])
         .stdout(Stdio::null())
@@ -79,8 +78,8 @@ pub fn count(
     );
     read(plan, here, &dumps, &mut counts);
     for (title, program) in servers {
-        let dumps = fresh(folder, title);
-        let server = Server::start(title, &callgrind(&dumps), program, &folder.join("calls"));
+        let dumps = fresh(folder, &format!("{name}-{title}"));
+        let server = Server::start(title, &callgrind(&dumps), program, calls);
         let mut side = [Side::There(server)];
         one_pass(plan, &mut side);
         read(plan, &side, &dumps, &mut counts);

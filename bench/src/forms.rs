@@ -9,14 +9,11 @@ use model::random::Random;
 use crate::case::{Case, Group, Plan, FILLED, QUERIES, ROOMY};
 use crate::lists::Calls;
 use crate::places;
-use crate::state::{filled, roomy, State};
+use crate::state::{filled, roomy, State, ORIGINS};
 use crate::targets::form_targets;
 
-/// Every base is a multiple of 4 in this form.
-const ALIGNED: u32 = 4;
-
 pub fn plan() -> Plan {
-    let states = vec![filled(ALIGNED), roomy(ALIGNED)];
+    let states = vec![filled(ORIGINS), roomy(ORIGINS)];
     let mut cases = pointers(&states[FILLED]);
     let placed = places::cases(&states[ROOMY]).into_iter();
     cases.extend(placed.filter(|case| {

@@ -1,4 +1,5 @@
-//! The proved library, called through its C interface: one build, or two with the symbols of the earlier one renamed.
+//! The proved library, called through its C interface: one build, or two with the symbols of the earlier one renamed; and that of the desk form,
+//! whose functions are the same under names of their own.
 
 use model::call::Call;
 
@@ -113,6 +114,11 @@ macro_rules! build {
             }
 
             impl Library {
+                pub fn new(title: &'static str, lacks: Vec<String>) -> Self {
+                    let lent = Lent::new();
+                    Library { title, lent, lacks }
+                }
+
                 // Safe: each pointer comes with its own shadow's length, and the library stays inside.
                 #[inline(always)]
                 fn call(&mut self, call: Call, fields: &mut Four) -> u32 {
@@ -206,6 +212,21 @@ build!(
     "block_monitor_next",
     "block_monitor_audit",
     "block_monitor_place"
+);
+
+build!(
+    desk,
+    "block_monitor_desk_clear",
+    "block_monitor_desk_begin",
+    "block_monitor_desk_free",
+    "block_monitor_desk_remove",
+    "block_monitor_desk_written",
+    "block_monitor_desk_ask",
+    "block_monitor_desk_access",
+    "block_monitor_desk_initialised",
+    "block_monitor_desk_next",
+    "block_monitor_desk_audit",
+    "block_monitor_desk_place"
 );
 
 #[cfg(before)]

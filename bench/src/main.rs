@@ -2,6 +2,7 @@
 
 mod case;
 mod count;
+mod desk;
 mod forms;
 mod gaps;
 mod library;
@@ -17,6 +18,7 @@ mod server;
 mod side;
 mod state;
 mod targets;
+mod traces;
 
 use std::fs;
 use std::path::{Path, PathBuf};
@@ -25,7 +27,7 @@ use model::plain::PlainList;
 use model::plain_btree::PlainTree;
 
 use case::Plan;
-use library::Lent;
+use desk::Player;
 use measure::Effort;
 use memset::Memset;
 use origins::Origins;
@@ -33,26 +35,49 @@ use report::{Others, Report};
 use scan::Scan;
 use server::Server;
 use side::{Model, Side};
+use state::PLAYER;
 
 const OUT: &str = "target/bench";
 
-fn traces() -> Vec<(&'static str, Vec<u8>)> {
-    ["sha1", "sorts"]
-        .into_iter()
-        .map(|name| {
-            let path = format!("model/tests/data/{name}.calls");
-            (name, fs::read(&path).expect("a trace's file"))
-        })
-        .collect()
+/// A comparison: its name, its plan, its sides that live in this program, the first of them in all ratios, and those of E-ACSL's that take part.
+struct Comparison {
+    name: &'static str,
+    plan: fn() -> Plan,
+    here: fn() -> Vec<Side>,
+    there: &'static [&'static str],
 }
+
+const MAIN: Comparison = Comparison {
+    name: "main",
+    plan: case::plan,
+    here,
+    there: &["shadow", "trie"],
+};
+
+const FORMS: Comparison = Comparison {
+    name: "forms",
+    plan: forms::plan,
+    here: forms,
+    there: &[],
+};
+
+const GAPS: Comparison = Comparison {
+    name: "gaps",
+    plan: || gaps::plan(PLAYER),
+    here: placers,
+    there: &[],
+};
+
+const DESK: Comparison = Comparison {
+    name: "desk",
+    plan: desk::plan,
+    here: desks,
+    there: &["shadow"],
+};
 
 /// The library of this build, under a title.
 fn library(title: &'static str) -> Side {
-    Side::Here(Box::new(library::this::Library {
-        title,
-        lent: Lent::new(),
-        lacks: Vec::new(),
-    }))
+    Side::Here(Box::new(library::this::Library::new(title, Vec::new())))
 }
 
 /// The sides that live in this program; the library is the first.
@@ -60,11 +85,7 @@ fn here() -> Vec<Side> {
     vec![
         library("monitor"),
         #[cfg(before)]
-        Side::Here(Box::new(library::before::Library {
-            title: "before",
-            lent: Lent::new(),
-            lacks: lacks(),
-        })),
+        Side::Here(Box::new(library::before::Library::new("before", lacks()))),
         Side::Here(Box::new(Memset::new(false))),
         Side::Here(Box::new(Model::<PlainList>::new("list"))),
         Side::Here(Box::new(Model::<PlainTree>::new("tree"))),
@@ -89,6 +110,14 @@ fn placers() -> Vec<Side> {
     ]
 }
 
+/// The desk form, beside the player's.
+fn desks() -> Vec<Side> {
+    vec![
+        Side::Here(Box::new(library::desk::Library::new("desk", Vec::new()))),
+        Side::Here(Box::new(Player::new())),
+    ]
+}
+
 /// The symbols of this build that the earlier one lacks.
 #[cfg(before)]
 fn lacks() -> Vec<String> {
@@ -99,32 +128,24 @@ fn lacks() -> Vec<String> {
         .collect()
 }
 
-/// E-ACSL's two models, where they were built.
-fn servers() -> Vec<(&'static str, PathBuf)> {
-    ["shadow", "trie"]
-        .into_iter()
-        .map(|title| (title, Path::new(OUT).join(format!("eacsl-{title}"))))
-        .filter(|(_, program)| program.exists())
-        .collect()
-}
-
 fn main() {
     let words: Vec<String> = std::env::args().skip(1).collect();
-    match words.first().map(String::as_str) {
-        Some(count::ONE_PASS) => return count::one_pass(&case::plan(&traces()), &mut here()),
-        Some(count::ONE_PASS_OF_FORMS) => return count::one_pass(&forms::plan(), &mut forms()),
-        Some(count::ONE_PASS_OF_GAPS) => return count::one_pass(&gaps::plan(), &mut placers()),
-        _ => {}
+    if let [count::ONE_PASS, name] = words.iter().map(String::as_str).collect::<Vec<_>>()[..] {
+        let all = [MAIN, FORMS, GAPS, DESK];
+        let named = all.iter().find(|comparison| comparison.name == name);
+        let Comparison { plan, here, .. } = named.expect("the name of a comparison");
+        return count::one_pass(&plan(), &mut here());
     }
     let quick = words.iter().any(|word| word == "--quick");
     let effort = Effort {
         rounds: if quick { 5 } else { 15 },
         turn: if quick { 1e6 } else { 4e6 },
     };
-    let report = run(case::plan(&traces()), &effort);
+    let report = MAIN.measured(&effort);
     let others = Others {
-        forms: run_here(forms::plan(), count::ONE_PASS_OF_FORMS, forms, &effort),
-        gaps: run_here(gaps::plan(), count::ONE_PASS_OF_GAPS, placers, &effort),
+        forms: FORMS.measured(&effort),
+        gaps: GAPS.measured(&effort),
+        desk: DESK.measured(&effort),
     };
     print!("{}\n{}", report.text(), others.text());
     report.write(Path::new(OUT), &others);
@@ -133,58 +154,52 @@ fn main() {
     }
 }
 
-/// A run whose sides all live in this program; the word makes one pass of it.
-fn run_here(plan: Plan, word: &str, all: fn() -> Vec<Side>, effort: &Effort) -> Report {
-    let mut sides = all();
-    let rows = measure::measure(&plan, &mut sides, effort);
-    let counts =
-        count::valgrind_there().then(|| count::count(&plan, word, &all(), &[], Path::new(OUT)));
-    Report {
-        plan,
-        titles: sides.iter().map(Side::title).collect(),
-        rows,
-        counts,
-        rounds: effort.rounds,
-        versions: versions(),
+impl Comparison {
+    /// E-ACSL's models that take part, where they were built.
+    fn servers(&self) -> Vec<(&'static str, PathBuf)> {
+        let programs = self
+            .there
+            .iter()
+            .map(|&title| (title, Path::new(OUT).join(format!("eacsl-{title}"))));
+        programs.filter(|(_, program)| program.exists()).collect()
     }
-}
 
-fn versions() -> String {
-    fs::read_to_string(Path::new(OUT).join("versions")).unwrap_or_default()
-}
-
-fn run(plan: Plan, effort: &Effort) -> Report {
-    let out = Path::new(OUT);
-    let servers = servers();
-    let calls = out.join("calls");
-    server::write_files(&calls, &plan);
-    let mut sides = here();
-    for (title, program) in &servers {
-        sides.push(Side::There(Server::start(title, &[], program, &calls)));
-    }
-    let rows = measure::measure(&plan, &mut sides, effort);
-    let titles = sides.iter().map(Side::title).collect();
-    for side in sides {
-        if let Side::There(server) = side {
-            server.end();
+    fn measured(&self, effort: &Effort) -> Report {
+        let out = Path::new(OUT);
+        let (plan, servers) = ((self.plan)(), self.servers());
+        let calls = out.join(format!("calls-{}", self.name));
+        if !servers.is_empty() {
+            server::write_files(&calls, &plan);
         }
-    }
-    let counts = count::valgrind_there()
-        .then(|| count::count(&plan, count::ONE_PASS, &here(), &servers, out));
-    Report {
-        plan,
-        titles,
-        rows,
-        counts,
-        rounds: effort.rounds,
-        versions: versions(),
+        let mut sides = (self.here)();
+        for (title, program) in &servers {
+            sides.push(Side::There(Server::start(title, &[], program, &calls)));
+        }
+        let rows = measure::measure(&plan, &mut sides, effort);
+        let titles = sides.iter().map(Side::title).collect();
+        for side in sides {
+            if let Side::There(server) = side {
+                server.end();
+            }
+        }
+        let counts = count::valgrind_there()
+            .then(|| count::count(&plan, self.name, &(self.here)(), &servers, &calls, out));
+        let versions = fs::read_to_string(out.join("versions")).unwrap_or_default();
+        Report {
+            plan,
+            titles,
+            rows,
+            counts,
+            rounds: effort.rounds,
+            versions,
+        }
     }
 }
 
 #[cfg(test)]
 mod tests {
     use super::*;
-    use crate::case::Case;
+    use crate::case::{Case, Group};
     use crate::lists::Calls;
 
     /// The sums of each case's answers, side by side, without memset.
@@ -215,8 +230,7 @@ mod tests {
     /// The library and both models answer each case's calls alike.
     #[test]
     fn sides_agree() {
-        std::env::set_current_dir("..").expect("the repository's folder");
-        each_case(&case::plan(&traces()), here(), same);
+        each_case(&(MAIN.plan)(), here(), same);
     }
 
     /// The library, the same in C and both models choose alike.
@@ -225,13 +239,25 @@ mod tests {
         let mut sides = placers();
         sides.push(Side::Here(Box::new(Model::<PlainList>::new("list"))));
         sides.push(Side::Here(Box::new(Model::<PlainTree>::new("tree"))));
-        each_case(&gaps::plan(), sides, same);
+        each_case(&(GAPS.plan)(), sides, same);
+    }
+
+    /// The desk form and both models answer alike, and so does the player's form, but for the places that it chooses.
+    #[test]
+    fn desks_agree() {
+        let mut sides = desks();
+        sides.push(Side::Here(Box::new(Model::<PlainList>::new("list"))));
+        sides.push(Side::Here(Box::new(Model::<PlainTree>::new("tree"))));
+        each_case(&(DESK.plan)(), sides, |case, sums| match case.group {
+            Group::OwnGaps => same(case, &[sums[0], sums[2], sums[3]]),
+            _ => same(case, sums),
+        });
     }
 
     /// Both forms record, free and remove alike; each pointer that is asked about is live, each other call of a pointer accepted without an answer.
     #[test]
     fn forms_agree() {
-        each_case(&forms::plan(), forms(), |case, sums| match case.calls {
+        each_case(&(FORMS.plan)(), forms(), |case, sums| match case.calls {
             Calls::Lives(_) => assert_eq!(sums[0], case.timed.len() as u64, "{}", case.title),
             Calls::Points(_) | Calls::Copies(_) => assert_eq!(sums[0], 0, "{}", case.title),
             _ => same(case, sums),

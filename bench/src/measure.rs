@@ -69,9 +69,9 @@ fn passes(case: &Case, side: &mut Side, effort: &Effort) -> u64 {
     (effort.turn / time.max(1.0)).clamp(1.0, MOST_PASSES) as u64
 }
 
-/// All sides answer the same; memset answers nothing, and of a pointer the plain form answers something else.
+/// All sides answer the same; memset answers nothing, of a pointer the plain form answers something else, and so do two forms that place blocks.
 fn check_sums(case: &Case, sides: &mut [Side]) {
-    if case.group == Group::Pointer {
+    if matches!(case.group, Group::Pointer | Group::OwnGaps) {
         return;
     }
     let mut sums = Vec::new();

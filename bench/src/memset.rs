@@ -188,11 +188,11 @@ fn cells(map: Map, list: &mut PlainTree, call: Call) -> Option<Part> {
 #[cfg(test)]
 mod tests {
     use super::*;
-    use crate::state::{apart, empty, roomy};
+    use crate::state::{apart, empty, roomy, ORIGINS, PLAYER};
 
     /// Where a part begins, and its length.
     fn parts(call: Call) -> Vec<(usize, usize)> {
-        let state = roomy(1);
+        let state = roomy(PLAYER);
         let mut parts = Vec::new();
         touched(state.map, &mut state.list(), call, &mut parts);
         parts.iter().map(|part| (part.start, part.length)).collect()
@@ -201,8 +201,8 @@ mod tests {
     /// Nine bytes of a reading, and one for each segment of the heap or each byte of the stack.
     #[test]
     fn marks() {
-        let heap = roomy(1).map.heap_start;
-        let stack = roomy(1).map.stack_start;
+        let heap = roomy(PLAYER).map.heap_start;
+        let stack = roomy(PLAYER).map.stack_start;
         for (n, segments) in [(8, 1), (64, 8), (1024, 128)] {
             let address = heap + 80;
             let whole = vec![(80, 9 + segments)];
@@ -223,19 +223,20 @@ mod tests {
     /// The first of the state's gaps lies behind its first block, the header of the second one ends it; there are 499.
     #[test]
     fn gaps() {
-        let state = apart();
+        let state = apart(PLAYER);
         let second = state.heap_blocks()[1].base - state.map.heap_start;
         let whole = |budget| passed(state.map, &state.list(), budget);
         assert_eq!(whole(1), second as usize);
         assert!(whole(498) < whole(499) && whole(499) < HEAP);
         assert_eq!(whole(500), HEAP);
-        assert_eq!(passed(empty().map, &empty().list(), 1), HEAP);
+        let empty = empty(PLAYER);
+        assert_eq!(passed(empty.map, &empty.list(), 1), HEAP);
     }
 
     /// Two bytes for each byte of whole cells.
     #[test]
     fn ended_cells() {
-        let state = roomy(4);
+        let state = roomy(ORIGINS);
         for (area, block) in [(0, &state.heap_blocks()[3]), (1, &state.stack_blocks()[3])] {
             let end = state.to_end(block.base);
             let part = cells(state.map, &mut state.list(), end);

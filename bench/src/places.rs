@@ -16,15 +16,18 @@ pub struct Room {
     pub end: u32,
     /// Bytes ahead of each block.
     header: u32,
+    /// Bases are multiples of it.
+    step: u32,
 }
 
 impl Room {
     pub fn of(state: &State) -> [Room; 2] {
+        let segment = state.map.form.segment;
         let areas = [
-            ("heap", state.heap_blocks(), 8),
-            ("stack", state.stack_blocks(), 0),
+            ("heap", state.heap_blocks(), segment, segment),
+            ("stack", state.stack_blocks(), 0, 8),
         ];
-        areas.map(|(area, blocks, header)| {
+        areas.map(|(area, blocks, header, step)| {
             let [.., one, other] = &blocks[..] else {
                 panic!("an area has two blocks at least");
             };
@@ -33,15 +36,16 @@ impl Room {
                 start: one.base + one.length,
                 end: other.base,
                 header,
+                step,
             }
         })
     }
 
     /// The bases of blocks of one length, one after the other.
     pub fn bases(&self, length: u32) -> Vec<u32> {
-        let first = self.start.next_multiple_of(8) + self.header;
-        let step = (length + self.header) as usize;
-        let bases = (first..self.end - self.header - length).step_by(step);
+        let first = self.start.next_multiple_of(self.step) + self.header;
+        let taken = length.next_multiple_of(self.step) + self.header;
+        let bases = (first..self.end - self.header - length).step_by(taken as usize);
         bases.take(PLACES).collect()
     }
 }
@@ -109,7 +113,7 @@ pub fn cases(state: &State) -> Vec<Case> {
 mod tests {
     use super::*;
     use crate::lists::Calls;
-    use crate::state::roomy;
+    use crate::state::{roomy, PLAYER};
     use model::map::Area;
     use model::plain::List;
 
@@ -154,7 +158,7 @@ mod tests {
     /// Literals are recorded in the stack alone; blocks are freed in the heap and removed in the stack. All calls are accepted.
     #[test]
     fn areas_and_acceptance() {
-        let state = roomy(1);
+        let state = roomy(PLAYER);
         let cases = cases(&state);
         let count = |words: &str| {
             let named = |case: &&Case| case.title.starts_with(words);
@@ -182,7 +186,7 @@ mod tests {
 
     #[test]
     fn marks_of_whole_blocks() {
-        let state = roomy(1);
+        let state = roomy(PLAYER);
         let cases = cases(&state);
         for (area, of) in [(Area::Heap, "heap"), (Area::Stack, "stack")] {
             for (length, text) in [(8, "8"), (64, "64"), (1024, "1,024")] {

@@ -9,32 +9,14 @@ use crate::count::Counts;
 use crate::measure::{median, ratio, Row};
 use crate::plot;
 
+mod others;
+pub use others::Others;
+
 const PAGE: &str = "BENCHMARKS.md";
 const PLOT: &str = "benchmarks.svg";
 const BEGIN: &str = "<!-- begin: written by ./bench.sh --docs -->";
 const BEGIN_MARKS: &str = "<!-- begin: marks, written by ./bench.sh --before COMMIT --docs -->";
-const BEGIN_FORMS: &str = "<!-- begin: forms, written by ./bench.sh --docs -->";
-const BEGIN_GAPS: &str = "<!-- begin: gaps, written by ./bench.sh --docs -->";
 const END: &str = "<!-- end -->";
-
-/// The runs beside the main one: the form with origins, and place.
-pub struct Others {
-    pub forms: Report,
-    pub gaps: Report,
-}
-
-impl Others {
-    fn parts(&self) -> [(&'static str, String); 2] {
-        [
-            (BEGIN_FORMS, self.forms.form_text()),
-            (BEGIN_GAPS, self.gaps.gap_text()),
-        ]
-    }
-
-    pub fn text(&self) -> String {
-        self.parts().map(|(_, text)| text).join("\n")
-    }
-}
 
 pub struct Report {
     pub plan: Plan,
@@ -111,60 +93,6 @@ impl Report {
             );
         }
         text
-    }
-
-    /// The tables of a run that sets the form with origins beside the plain form.
-    fn form_text(&self) -> String {
-        let note = " Beside `point`, `copy` and `live` the plain form's call is `ask`.";
-        self.peer_text("The form with origins", "plain", note)
-    }
-
-    /// The tables of a run that sets place beside the same in C.
-    fn gap_text(&self) -> String {
-        self.peer_text("place", "C", "")
-    }
-
-    fn peer_text(&self, title: &str, peer: &str, note: &str) -> String {
-        format!(
-            "### {title}: targets\n\n{}\n### {title}: time and instructions\n\n{}",
-            self.target_table(),
-            self.peer_table(peer, note)
-        )
-    }
-
-    /// The first side beside one peer and memset.
-    fn peer_table(&self, peer: &str, note: &str) -> String {
-        let mut table = format!(
-            "Nanoseconds a call, median of {} rounds; ratios are the median of the rounds' ratios; instructions a call by callgrind, the loop over the calls included.{note}\n\n\
-             | Case | ns | ns {peer} | of {peer} | ns memset | of memset | instructions | instructions {peer} | of {peer} |\n\
-             |---|---:|---:|---:|---:|---:|---:|---:|---:|\n",
-            self.rounds
-        );
-        let side = |name: &str| self.titles.iter().position(|&title| title == name);
-        let (peer, memset) = (
-            side(peer).expect("its side"),
-            side("memset").expect("its side"),
-        );
-        for (index, case) in self.plan.cases.iter().enumerate() {
-            let (own, other) = (self.count(index, 0), self.count(index, peer));
-            let cells = [
-                self.time(index, 0).map(short),
-                self.time(index, peer).map(short),
-                self.in_peer(index, peer).map(short),
-                self.time(index, memset).map(short),
-                self.in_peer(index, memset).map(short),
-                own.map(whole),
-                other.map(whole),
-                own.zip(other).map(|(own, other)| short(own / other)),
-            ];
-            let _ = writeln!(
-                table,
-                "| {} | {} |",
-                case.title,
-                cells.map(cell).join(" | ")
-            );
-        }
-        table
     }
 
     fn header(&self, skip: &str) -> String {

@@ -22,11 +22,7 @@ pub struct Scan {
 impl Scan {
     pub fn new() -> Self {
         Scan {
-            library: Library {
-                title: "C",
-                lent: Lent::new(),
-                lacks: Vec::new(),
-            },
+            library: Library::new("C", Vec::new()),
         }
     }
 }

@@ -2,6 +2,7 @@
 
 use model::block::Block;
 use model::call::Call;
+use model::form::{self, Form};
 use model::map::Map;
 use model::plain::List;
 use model::plain_btree::PlainTree;
@@ -20,6 +21,38 @@ const BLOCKS: u32 = 500;
 const SHORT_OF: u64 = 5;
 const SHORTS: u64 = 2;
 
+/// Where bases lie: in the heap as a form wants it, in the stack at multiples of a number.
+#[derive(Clone, Copy)]
+pub struct Grid {
+    form: Form,
+    stack: u32,
+}
+
+#[rustfmt::skip]
+pub const PLAYER: Grid = Grid { form: form::PLAYER, stack: 1 };
+#[rustfmt::skip]
+pub const ORIGINS: Grid = Grid { form: form::PLAYER, stack: 4 };
+#[rustfmt::skip]
+pub const DESK: Grid = Grid { form: form::DESK, stack: 1 };
+
+impl Grid {
+    /// Heap bases are multiples of it, and each header takes one.
+    fn segment(self) -> u32 {
+        self.form.segment
+    }
+
+    /// The longest heap block. Header and rest of the last segment take 12 bytes more where segments have 16: lengths are up to 24 less there, so
+    /// that as many blocks fit.
+    fn longest(self, length: u32) -> u32 {
+        length - 3 * (self.segment() - PLAYER.segment())
+    }
+
+    /// The bytes that a heap block takes with its header.
+    fn taken(self, length: u32) -> u32 {
+        self.segment() + length.next_multiple_of(self.segment())
+    }
+}
+
 pub struct State {
     pub title: &'static str,
     pub map: Map,
@@ -27,8 +60,13 @@ pub struct State {
     pub calls: Vec<Call>,
 }
 
-fn full_map() -> Map {
-    Map::new(HEAP_START, HEAP_SIZE, STACK_START, STACK_SIZE)
+/// A state of full size.
+fn full(title: &'static str, grid: Grid, calls: Vec<Call>) -> State {
+    State {
+        title,
+        map: Map::new(HEAP_START, HEAP_SIZE, STACK_START, STACK_SIZE).of(grid.form),
+        calls,
+    }
 }
 
 fn add(calls: &mut Vec<Call>, base: u32, length: u32) {
@@ -40,17 +78,17 @@ fn add(calls: &mut Vec<Call>, base: u32, length: u32) {
     });
 }
 
-/// Blocks one after the other, up to a longest length, stack bases at multiples of a number; the last one ends the area.
-fn blocks(longest_heap: u32, longest_stack: u32, aligned: u32) -> Vec<Call> {
+/// Blocks one after the other, up to a longest length; the last one ends the area.
+fn blocks(longest_heap: u32, longest_stack: u32, grid: Grid) -> Vec<Call> {
     let mut random = Random::new(20);
     let mut calls = Vec::new();
     let mut at = HEAP_START;
     for _ in 1..BLOCKS {
-        let length = random.between(1, longest_heap);
-        add(&mut calls, at + 8, length);
-        at += 8 + length.next_multiple_of(8);
+        let length = random.between(1, grid.longest(longest_heap));
+        add(&mut calls, at + grid.segment(), length);
+        at += grid.taken(length);
     }
-    last(&mut calls, at + 8, HEAP_END);
+    last(&mut calls, at + grid.segment(), HEAP_END);
     let mut at = STACK_START;
     for _ in 1..BLOCKS {
         let short = random.below(SHORT_OF) < SHORTS;
@@ -60,7 +98,7 @@ fn blocks(longest_heap: u32, longest_stack: u32, aligned: u32) -> Vec<Call> {
             random.between(9, longest_stack)
         };
         add(&mut calls, at, length);
-        at = (at + length).next_multiple_of(aligned);
+        at = (at + length).next_multiple_of(grid.stack);
     }
     last(&mut calls, at, STACK_END);
     calls
@@ -74,48 +112,32 @@ fn last(calls: &mut Vec<Call>, lowest: u32, end: u32) {
 }
 
 /// 1,000 live blocks all over the two areas.
-pub fn filled(aligned: u32) -> State {
-    State {
-        title: "filled",
-        map: full_map(),
-        calls: blocks(486, 400, aligned),
-    }
+pub fn filled(grid: Grid) -> State {
+    full("filled", grid, blocks(486, 400, grid))
 }
 
 /// 1,000 live blocks and much room between the last two of each area.
-pub fn roomy(aligned: u32) -> State {
-    State {
-        title: "roomy",
-        map: full_map(),
-        calls: blocks(100, 80, aligned),
-    }
+pub fn roomy(grid: Grid) -> State {
+    full("roomy", grid, blocks(100, 80, grid))
 }
 
 /// 500 live blocks in the heap alone, each but the last with a gap behind it.
-pub fn apart() -> State {
+pub fn apart(grid: Grid) -> State {
     let mut random = Random::new(53);
     let mut calls = Vec::new();
     let mut at = HEAP_START;
     for _ in 1..BLOCKS {
-        let length = random.between(1, 230);
-        add(&mut calls, at + 8, length);
-        let gap = 8 * random.between(1, 29);
-        at += 8 + length.next_multiple_of(8) + gap;
+        let length = random.between(1, grid.longest(230));
+        add(&mut calls, at + grid.segment(), length);
+        let gap = grid.segment() * random.between(1, 232 / grid.segment());
+        at += grid.taken(length) + gap;
     }
-    last(&mut calls, at + 8, HEAP_END);
-    State {
-        title: "apart",
-        map: full_map(),
-        calls,
-    }
+    last(&mut calls, at + grid.segment(), HEAP_END);
+    full("apart", grid, calls)
 }
 
-pub fn empty() -> State {
-    State {
-        title: "empty",
-        map: full_map(),
-        calls: Vec::new(),
-    }
+pub fn empty(grid: Grid) -> State {
+    full("empty", grid, Vec::new())
 }
 
 impl State {

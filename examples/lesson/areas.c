@@ -23,15 +23,15 @@ static uint8_t secondary_shadow[STACK_SIZE];
 #ifdef ORIGINS
 static uint8_t heap_cells[BLOCK_MONITOR_CELLS * HEAP_SIZE];
 static uint8_t stack_cells[BLOCK_MONITOR_CELLS * STACK_SIZE];
+#endif
 
-struct block_monitor_origins monitor = {
+form_monitor monitor = {
+#ifdef ORIGINS
     .heap_cells = heap_cells,
     .heap_cells_length = sizeof heap_cells,
     .stack_cells = stack_cells,
     .stack_cells_length = sizeof stack_cells,
     .counter = 1,
-#else
-const struct block_monitor monitor = {
 #endif
     .map = {HEAP_START, HEAP_SIZE, STACK_START, STACK_SIZE},
     .heap = heap_shadow,

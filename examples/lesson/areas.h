@@ -2,27 +2,36 @@
 #ifndef AREAS_H
 #define AREAS_H
 
+/*
+ * The form that is used: with -DORIGINS the form with origins, with -DDESK the desk form, else the plain form. FORM(ask) is its call ask, form_monitor
+ * what all of its calls take: map and shadows, with origins cells and counter too. Heap start, heap size and heap bases are multiples of SEGMENT.
+ */
+#if defined ORIGINS
 #include "block_monitor_origins.h"
+typedef struct block_monitor_origins form_monitor;
+#define FORM(call) monitor_origins_##call
+enum { SEGMENT = BLOCK_MONITOR_SEGMENT, HEADER = BLOCK_MONITOR_HEADER };
+#elif defined DESK
+#include "block_monitor_desk.h"
+typedef const struct block_monitor_desk form_monitor;
+#define FORM(call) monitor_desk_##call
+enum { SEGMENT = BLOCK_MONITOR_DESK_SEGMENT, HEADER = BLOCK_MONITOR_DESK_HEADER };
+#else
+#include "block_monitor.h"
+typedef const struct block_monitor form_monitor;
+#define FORM(call) monitor_##call
+enum { SEGMENT = BLOCK_MONITOR_SEGMENT, HEADER = BLOCK_MONITOR_HEADER };
+#endif
 
-/* The chip's sizes. The starts are chosen freely: multiples of 8, at least 8, areas apart. */
+extern form_monitor monitor;
+
+/* The chip's sizes. The starts are chosen freely: that of the heap a multiple of SEGMENT, that of the stack of 8, neither 0, areas apart. */
 enum {
     HEAP_START = 0x1000,
     HEAP_SIZE = BLOCK_MONITOR_LARGEST_HEAP,
     STACK_START = 0x40000,
     STACK_SIZE = BLOCK_MONITOR_LARGEST_STACK
 };
-
-/*
- * What every call of the monitor takes: map and shadows. Built with -DORIGINS the lesson uses the form with origins, with cells and counter too.
- * FORM(ask) is the call ask of the form that is used.
- */
-#ifdef ORIGINS
-extern struct block_monitor_origins monitor;
-#define FORM(call) monitor_origins_##call
-#else
-extern const struct block_monitor monitor;
-#define FORM(call) monitor_##call
-#endif
 
 /* Before anything else: empty heap, empty stack. */
 void areas_start(void);
@@ -38,9 +47,9 @@ uint32_t address_of(const void *pointer);
 void *pointer_to(uint32_t address);
 
 /*
- * Room on the heap. A program takes first_fit.c, which keeps a list of its own, or, in the plain form, placed.c, where the monitor chooses. The base
- * is a multiple of 8, and the 8 bytes before it are no other block's. NULL if there is no room. The monitor is told of the block next, with nothing
- * between.
+ * Room on the heap. A program takes first_fit.c, which keeps a list of its own, or, but for the form with origins, placed.c, where the monitor
+ * chooses. The base is a multiple of SEGMENT, and the HEADER bytes before it are no other block's. NULL if there is no room. The monitor is told of
+ * the block next, with nothing between.
  */
 void *heap_allocate(uint32_t length);
 

@@ -42,7 +42,7 @@ struct place {
 
 /*
  * For a pointer that is kept in lent memory, four bytes that hold an address: where it is set, after the write; and before it is used, after the
- * read of it. The plain form knows nothing of the allocation that a pointer was set to: there neither stops anything.
+ * read of it. Without origins the monitor knows nothing of the allocation that a pointer was set to: there neither stops anything.
  */
 #define CHECK_KEEP(cell, pointer) check_keep(cell, pointer, HERE)
 #define CHECK_KEPT(cell, pointer) check_kept(cell, pointer, HERE)

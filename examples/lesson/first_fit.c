@@ -1,9 +1,9 @@
 /* The heap's own allocator, first fit. It knows nothing of the monitor: with the checks taken out, the lesson runs as it is. */
 #include "areas.h"
 
-/* The heap is a row of units, each a header of two words and the room behind it. The monitor leaves the same 8 bytes to the header. */
+/* The heap is a row of units, each a header, of which two words are used, and the room behind it. The monitor leaves the same bytes to the header. */
 struct unit {
-    uint32_t size; /* header and room, a multiple of 8 */
+    uint32_t size; /* header and room, a multiple of SEGMENT */
     uint32_t taken;
 };
 
@@ -41,9 +41,9 @@ void *heap_allocate(uint32_t length)
 {
     uint32_t place, room, need;
 
-    if (length == 0 || length > HEAP_SIZE - BLOCK_MONITOR_HEADER)
+    if (length == 0 || length > HEAP_SIZE - HEADER)
         return NULL;
-    need = BLOCK_MONITOR_HEADER + (length + 7) / 8 * 8;
+    need = HEADER + (length + SEGMENT - 1) / SEGMENT * SEGMENT;
     for (place = 0; place < HEAP_SIZE; place += unit_at(place).size) {
         if (unit_at(place).taken)
             continue;
@@ -54,7 +54,7 @@ void *heap_allocate(uint32_t length)
         if (room > need)
             put_unit(place + need, room - need, 0);
         put_unit(place, need, 1);
-        return pointer_to(HEAP_START + place + BLOCK_MONITOR_HEADER);
+        return pointer_to(HEAP_START + place + HEADER);
     }
     return NULL;
 }
@@ -65,6 +65,6 @@ void heap_release(const void *pointer)
 
     if (pointer == NULL)
         return;
-    place = address_of(pointer) - HEAP_START - BLOCK_MONITOR_HEADER;
+    place = address_of(pointer) - HEAP_START - HEADER;
     put_unit(place, unit_at(place).size, 0);
 }

@@ -3,7 +3,8 @@
 use std::ops::Range;
 
 use crate::call::refusal;
-use crate::map::{Area, Map, SEGMENT};
+use crate::form::Form;
+use crate::map::{Area, Map};
 
 /// A block with one written mark for each of its bytes. A literal lies in the
 /// stack area and may only be read, so all of its bytes stay written.
@@ -58,10 +59,10 @@ impl Block {
 
 /// The application bytes whose shadow a block takes: a heap block's header and
 /// whole segments, a stack block's own bytes.
-pub fn footprint(area: Area, base: u32, length: u32) -> Range<u64> {
+pub fn footprint(form: Form, area: Area, base: u32, length: u32) -> Range<u64> {
     let (base, length) = (u64::from(base), u64::from(length));
     match area {
-        Area::Heap => base - SEGMENT..base + length.div_ceil(SEGMENT) * SEGMENT,
+        Area::Heap => base - form.whole()..base + length.next_multiple_of(form.whole()),
         Area::Stack => base..base + length,
     }
 }
@@ -74,14 +75,14 @@ pub fn placement(map: Map, base: u32, length: u32) -> Result<Area, u32> {
     let area = map.area(base).ok_or(refusal::OUTSIDE)?;
     let bounds = map.bounds(area);
     let first = match area {
-        Area::Heap => bounds.start + SEGMENT,
+        Area::Heap => bounds.start + map.form.whole(),
         Area::Stack => bounds.start,
     };
     // Bytes, not segments, decide the fit: an unaligned base gets 5, not 4.
     if u64::from(base) < first || u64::from(base) + u64::from(length) > bounds.end {
         return Err(refusal::OUTSIDE);
     }
-    if area == Area::Heap && u64::from(base) % SEGMENT != 0 {
+    if area == Area::Heap && !base.is_multiple_of(map.form.segment) {
         return Err(refusal::UNALIGNED);
     }
     Ok(area)

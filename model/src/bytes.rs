@@ -2,6 +2,7 @@
 //!
 //! It keeps nothing between calls; the shadows hold all of the state.
 
+mod marks;
 mod place;
 
 use std::ops::Range;
@@ -9,7 +10,7 @@ use std::ops::Range;
 use crate::block::{footprint, placement_as, Beginning};
 use crate::call::{refusal, Answer, Call, Outcome, NO_FIELDS};
 use crate::decode::decode;
-use crate::image::{stack_code, EIGHT, LONGEST_SHORT};
+use crate::image::{stack_code, LONGEST_SHORT};
 use crate::map::{Area, Map, NULL};
 use crate::plain::{not_literal, not_zero, totals};
 use crate::reading::{Found, Reading, View};
@@ -110,17 +111,18 @@ impl Lent<'_> {
         Ok(NO_FIELDS)
     }
 
+    /// The place was zero, and so are the upper bytes of a number that is wider
+    /// than a length.
     fn record_heap(&mut self, place: Range<usize>, length: u32, written: bool) {
-        put(self.heap, place.start + 4, length);
+        let size = self.map.form.bytes();
+        put(self.heap, place.start + self.map.form.width, length);
         let mut offset = 0;
-        for segment in (place.start + EIGHT..place.end).step_by(EIGHT) {
+        for segment in (place.start + size..place.end).step_by(size) {
             put(self.heap, segment, offset + 1);
-            if written {
-                // The last segment may have fewer bytes than bits.
-                let past = 8 - (length - offset).min(8);
-                self.heap[segment + 4] = 0xff >> past;
-            }
-            offset += 8;
+            offset += size as u32;
+        }
+        if written {
+            self.mark(place.start + size..place.start + size + length as usize);
         }
     }
 
@@ -189,11 +191,12 @@ impl Lent<'_> {
         let found = found.filter(|f| f.holds(n)).ok_or(refusal::NO_BLOCK)?;
         not_literal(found.literal)?;
         let first = self.map.position(area, address);
-        for position in first..first + n as usize {
-            match area {
-                Area::Heap => self.heap[position - position % EIGHT + 4] |= 1 << (position % EIGHT),
-                Area::Stack => self.primary[position] |= 1,
-            }
+        let positions = first..first + n as usize;
+        match area {
+            Area::Heap => self.mark(positions),
+            Area::Stack => self.primary[positions]
+                .iter_mut()
+                .for_each(|byte| *byte |= 1),
         }
         Ok(NO_FIELDS)
     }
@@ -235,18 +238,6 @@ impl Lent<'_> {
         Ok([u32::from(all_written), 0, 0, 0])
     }
 
-    /// The written bit of an address of either area, whatever stands around it.
-    fn written_bit(&self, address: u32) -> bool {
-        match self.map.area(address) {
-            Some(Area::Heap) => {
-                let position = self.map.position(Area::Heap, address);
-                self.heap[position - position % EIGHT + 4] >> (position % EIGHT) & 1 == 1
-            }
-            Some(Area::Stack) => self.primary[self.map.position(Area::Stack, address)] & 1 == 1,
-            None => false,
-        }
-    }
-
     /// The climb; outside the areas each reading is no block, so it skips there.
     fn next(&self, address: u32) -> Outcome {
         for area in self.map.climbing() {
@@ -272,7 +263,7 @@ impl Lent<'_> {
     /// The shadow positions of a block's footprint.
     fn positions(&self, area: Area, base: u32, length: u32) -> Range<usize> {
         let start = self.map.bounds(area).start;
-        let place = footprint(area, base, length);
+        let place = footprint(self.map.form, area, base, length);
         (place.start - start) as usize..(place.end - start) as usize
     }
 }

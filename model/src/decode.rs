@@ -5,9 +5,10 @@
 //! image of what they name is then simply compared.
 
 use crate::block::{footprint, meet, placement, Block};
-use crate::image::{image, EIGHT, LONGEST_SHORT, PIECE_CODE};
+use crate::form::Form;
+use crate::image::{image, LONGEST_SHORT, PIECE, PIECE_CODE};
 use crate::map::Area;
-use crate::reading::{number, short_block, View};
+use crate::reading::{number, short_block, wide_number, View};
 
 /// The placed list whose image the bytes are, if there is one.
 pub fn decode(view: View) -> Option<Vec<Block>> {
@@ -17,7 +18,7 @@ pub fn decode(view: View) -> Option<Vec<Block>> {
             Area::Heap => heap_candidates(view)?,
             Area::Stack => stack_candidates(view)?,
         };
-        if footprints_meet(area, &found) {
+        if footprints_meet(view.map.form, area, &found) {
             return None;
         }
         blocks.extend(found);
@@ -30,17 +31,20 @@ pub fn decode(view: View) -> Option<Vec<Block>> {
 }
 
 fn heap_candidates(view: View) -> Option<Vec<Block>> {
+    let form = view.map.form;
+    let number = |position| wide_number(&view.heap[position..position + form.width]);
     let mut blocks = Vec::new();
-    for position in (0..view.heap.len()).step_by(EIGHT) {
-        if number(view.heap, position) != 1 {
+    for position in (0..view.heap.len()).step_by(form.bytes()) {
+        if number(position) != 1 {
             continue;
         }
-        let header = position.checked_sub(EIGHT)?;
-        let length = number(view.heap, header + 4);
+        let header = position.checked_sub(form.bytes())?;
+        // No block is as long as a number that is damage.
+        let length = u32::try_from(number(header + form.width)).ok()?;
         let base = view.map.heap_start + position as u32;
         placement(view.map, base, length).ok()?;
         let written = (0..length as usize)
-            .map(|offset| heap_mark(view.heap, position + offset))
+            .map(|offset| heap_mark(form, view.heap, position + offset))
             .collect();
         blocks.push(Block {
             base,
@@ -85,7 +89,7 @@ fn first_byte_length(view: View, position: usize) -> Option<u32> {
             (offset == 0).then_some(length)
         }
         PIECE_CODE => {
-            let bytes = view.secondary.get(position..position + EIGHT)?;
+            let bytes = view.secondary.get(position..position + PIECE)?;
             let (length, offset) = (number(bytes, 0), number(bytes, 4));
             (offset == 0 && length > LONGEST_SHORT).then_some(length)
         }
@@ -93,16 +97,17 @@ fn first_byte_length(view: View, position: usize) -> Option<u32> {
     }
 }
 
-fn heap_mark(shadow: &[u8], position: usize) -> bool {
-    let place = position % EIGHT;
-    shadow[position - place + 4] >> place & 1 == 1
+fn heap_mark(form: Form, shadow: &[u8], position: usize) -> bool {
+    let place = position % form.bytes();
+    let bits = &shadow[position - place + form.width..];
+    bits[place / 8] >> (place % 8) & 1 == 1
 }
 
 /// In address order, footprints that meet at all include two next to each other.
-fn footprints_meet(area: Area, blocks: &[Block]) -> bool {
+fn footprints_meet(form: Form, area: Area, blocks: &[Block]) -> bool {
     let places = blocks
         .iter()
-        .map(|block| footprint(area, block.base, block.length));
+        .map(|block| footprint(form, area, block.base, block.length));
     places
         .clone()
         .zip(places.skip(1))

@@ -4,81 +4,27 @@
 //! for places.
 
 pub mod file;
+mod maps;
 pub mod places;
 pub mod shadows;
+
+pub use maps::{edge_map, edge_map_of, map, map_of, Scale};
 
 use crate::block::{Beginning, Block};
 use crate::call::Call;
 use crate::map::{Area, Map, NULL};
 use crate::random::Random;
 
-/// How large the areas of a generated map are.
-#[derive(Clone, Copy, Debug, PartialEq, Eq)]
-pub enum Scale {
-    /// A few segments and a few dozen stack bytes, soon full.
-    Crowded,
-    /// The largest areas of a good map.
-    Full,
-}
-
-/// The highest end of an area of a good map.
-const TOP: u64 = 4_294_967_288;
-
-/// A good map: bottom, top or middle of the address space, areas that touch or
-/// stand apart, either one first.
-pub fn map(random: &mut Random, scale: Scale) -> Map {
-    let (heap_size, stack_size) = match scale {
-        Scale::Crowded => (8 * random.between(2, 16), 8 * random.between(2, 9)),
-        Scale::Full => (131_072, 65_536),
-    };
-    let apart = 8 * random.below(40);
-    let gap = random.pick(&[0, 0, 8, apart]);
-    let total = u64::from(heap_size) + gap + u64::from(stack_size);
-    let low = match random.below(4) {
-        0 => 8,
-        1 => TOP - total,
-        2 => 4096,
-        _ => 8 * (1 + random.below((TOP - total) / 8)),
-    };
-    let heap_first = random.once_in(2);
-    let lower_size = if heap_first { heap_size } else { stack_size };
-    let high = (low + u64::from(lower_size) + gap) as u32;
-    let (heap_start, stack_start) = if heap_first {
-        (low as u32, high)
-    } else {
-        (high, low as u32)
-    };
-    Map::new(heap_start, heap_size, stack_start, stack_size)
-}
-
-/// A map at the edge of some rule, most often on the wrong side of it.
-pub fn edge_map(random: &mut Random) -> Map {
-    let mut edge = map(random, Scale::Crowded);
-    match random.below(10) {
-        0 => edge.heap_start = random.pick(&[0, 4, 7, 9, 12]),
-        1 => edge.stack_start = random.pick(&[0, 4, 7, 9, 12]),
-        2 => edge.heap_size = random.pick(&[0, 8, 15, 17, 20, 131_072, 131_080, u32::MAX - 7]),
-        3 => edge.stack_size = random.pick(&[0, 8, 15, 17, 20, 65_536, 65_544, u32::MAX - 7]),
-        4 => edge.heap_start = random.pick(&[4_294_967_272, 4_294_967_280, 4_294_967_288]),
-        5 => edge.stack_start = random.pick(&[4_294_967_272, 4_294_967_280, 4_294_967_288]),
-        6 => edge.stack_start = edge.heap_start.wrapping_add(edge.heap_size - 8),
-        7 => edge.heap_start = edge.stack_start.wrapping_add(edge.stack_size - 8),
-        8 => edge.heap_start = edge.stack_start,
-        _ => edge = Map::new(random.word(), random.word(), random.word(), random.word()),
-    }
-    edge
-}
-
 /// Any of the calls, refused ones included; blocks are the live ones.
 pub fn call(random: &mut Random, map: Map, blocks: &[Block]) -> Call {
     match random.once_in(20) {
         true => places::place(random, map, blocks),
-        false => call_of_both_forms(random, map, blocks),
+        false => call_but_place(random, map, blocks),
     }
 }
 
 /// The same without place, which the form with origins does not offer.
-pub(crate) fn call_of_both_forms(random: &mut Random, map: Map, blocks: &[Block]) -> Call {
+pub(crate) fn call_but_place(random: &mut Random, map: Map, blocks: &[Block]) -> Call {
     match random.below(100) {
         0 => Call::Clear,
         1..=34 => record(random, map, blocks),
@@ -125,8 +71,9 @@ pub fn inside(random: &mut Random, blocks: &[Block]) -> Call {
 /// Any way to record, mostly where a block could stand, with lengths around
 /// every step.
 pub fn record(random: &mut Random, map: Map, blocks: &[Block]) -> Call {
+    let segment = map.form.segment;
     let base = match random.below(10) {
-        0..=3 => map.heap_start + 8 * random.between(0, map.heap_size / 8 - 1),
+        0..=3 => map.heap_start + segment * random.between(0, map.heap_size / segment - 1),
         4..=7 => map.stack_start + random.between(0, map.stack_size - 1),
         8 => after_a_block(random, map, blocks),
         _ => address(random, map, blocks),
@@ -136,12 +83,17 @@ pub fn record(random: &mut Random, map: Map, blocks: &[Block]) -> Call {
         .map_or(0, |area| (map.bounds(area).end - u64::from(base)) as u32);
     let length = match random.below(20) {
         0 => 0,
-        1 => random.pick(&[u32::MAX, u32::MAX - 7, base.wrapping_neg(), 1 << 31]),
+        1 => random.pick(&[
+            u32::MAX,
+            u32::MAX - segment + 1,
+            base.wrapping_neg(),
+            1 << 31,
+        ]),
         2 => to_end,
         3 => to_end + 1,
         4 => to_end.saturating_sub(1),
-        5..=11 => random.between(1, 8),
-        12..=17 => random.between(9, 25),
+        5..=11 => random.between(1, segment),
+        12..=17 => random.between(segment + 1, 3 * segment + 1),
         _ => random.between(1, map.heap_size),
     };
     recording(random, base, length)
@@ -215,8 +167,10 @@ fn used(random: &mut Random, map: Map, blocks: &[Block]) -> u32 {
 
 fn area_edge(random: &mut Random, map: Map) -> u32 {
     let bounds = map.bounds(random.pick(&[Area::Heap, Area::Stack]));
-    let edge = random.pick(&[bounds.start, bounds.start + 8, bounds.end]) as u32;
-    edge.wrapping_add(random.pick(&[0, 0, 1, u32::MAX, 0u32.wrapping_sub(8)]))
+    let edges = [bounds.start, bounds.start + map.form.whole(), bounds.end];
+    let edge = random.pick(&edges) as u32;
+    let below = map.form.segment.wrapping_neg();
+    edge.wrapping_add(random.pick(&[0, 0, 1, u32::MAX, below]))
 }
 
 fn block_edge(random: &mut Random, map: Map, blocks: &[Block]) -> u32 {
@@ -252,12 +206,12 @@ fn after_a_block(random: &mut Random, map: Map, blocks: &[Block]) -> u32 {
         return area_edge(random, map);
     }
     let block = &blocks[random.below(blocks.len() as u64) as usize];
-    let next_segment = block.end().next_multiple_of(8) as u32;
+    let next_segment = block.end().next_multiple_of(map.form.whole()) as u32;
     // At the top of the address space the last one wraps, and is refused.
     random.pick(&[
         block.end() as u32,
         next_segment,
-        next_segment.wrapping_add(8),
+        next_segment.wrapping_add(map.form.segment),
     ])
 }
 

@@ -1,10 +1,11 @@
 //! The image of a list: what the two layouts give for its blocks, zero elsewhere.
 
 use crate::block::Block;
-use crate::map::{Area, Map, SEGMENT};
+use crate::form::Form;
+use crate::map::{Area, Map};
 
-/// Bytes in a heap segment and in a stack block's piece.
-pub(crate) const EIGHT: usize = SEGMENT as usize;
+/// Bytes in a long stack block's piece, but for its last.
+pub(crate) const PIECE: usize = 8;
 
 /// The longest stack block that its primary bytes tell alone.
 pub const LONGEST_SHORT: u32 = 8;
@@ -40,25 +41,34 @@ pub fn image(map: Map, blocks: &[Block]) -> Shadows {
             .expect("a placed block lies in an area");
         let position = map.position(area, block.base);
         match area {
-            Area::Heap => heap_block(&mut shadows.heap, position, block),
+            Area::Heap => heap_block(map.form, &mut shadows.heap, position, block),
             Area::Stack => stack_block(&mut shadows, position, block),
         }
     }
     shadows
 }
 
-fn heap_block(shadow: &mut [u8], position: usize, block: &Block) {
-    shadow[position - 4..position].copy_from_slice(&block.length.to_le_bytes());
-    for (index, marks) in block.written.chunks(EIGHT).enumerate() {
-        let offset = index * EIGHT;
-        let segment = &mut shadow[position + offset..][..EIGHT];
-        segment[..4].copy_from_slice(&(offset as u32 + 1).to_le_bytes());
-        segment[4] = marks
-            .iter()
-            .enumerate()
-            .map(|(j, &mark)| u8::from(mark) << j)
-            .sum();
+fn heap_block(form: Form, shadow: &mut [u8], position: usize, block: &Block) {
+    let (width, size) = (form.width, form.bytes());
+    let number = |number: u64| number.to_le_bytes()[..width].to_vec();
+    let (before, from_base) = shadow.split_at_mut(position);
+    let header = &mut before[position - size..];
+    header[width..2 * width].copy_from_slice(&number(block.length.into()));
+    let segments = from_base.chunks_mut(size);
+    for (index, (segment, marks)) in segments.zip(block.written.chunks(size)).enumerate() {
+        let offset = (index * size) as u64;
+        segment[..width].copy_from_slice(&number(offset + 1));
+        // A byte of written bits for each eight bytes of the segment.
+        for (byte, eight) in segment[width..].iter_mut().zip(marks.chunks(8)) {
+            *byte = written_bits(eight);
+        }
     }
+}
+
+/// Bit j is the mark of byte j.
+fn written_bits(marks: &[bool]) -> u8 {
+    let marks = marks.iter().enumerate();
+    marks.map(|(j, &mark)| u8::from(mark) << j).sum()
 }
 
 fn stack_block(shadows: &mut Shadows, position: usize, block: &Block) {
@@ -71,8 +81,8 @@ fn stack_block(shadows: &mut Shadows, position: usize, block: &Block) {
         return;
     }
     for piece in 0..block.length / 8 {
-        let at = position + piece as usize * EIGHT;
-        let bytes = &mut shadows.secondary[at..at + EIGHT];
+        let at = position + piece as usize * PIECE;
+        let bytes = &mut shadows.secondary[at..at + PIECE];
         bytes[..4].copy_from_slice(&block.length.to_le_bytes());
         bytes[4..].copy_from_slice(&(8 * piece).to_le_bytes());
     }

@@ -6,6 +6,10 @@
 //! bytes and no list. On every run of calls they must give the same answers,
 //! and the image of the list must be the bytes.
 //!
+//! The heap has two forms, the player's and the desk's, which are the same but
+//! for two sizes: every model has them from the map that it is given.
+//!
+//! - [`form`]: the two forms of the heap.
 //! - [`map`]: the map, its rules, and the two areas, in whole numbers.
 //! - [`call`]: the calls, their answers and the numbers of refusal.
 //! - [`block`]: a live block, its footprint, and where a block may be placed.
@@ -20,13 +24,16 @@
 //! - [`notation`]: the one-line notation of the example files.
 //! - [`samples`]: the samples program, which answers lines of that notation.
 //! - [`origins`]: the form with origins, with its own models and program.
+//! - [`held`]: a linked library held against the models.
 //! - [`random`], [`generate`]: seeded maps, calls, shadows and input files.
 
 pub mod block;
 pub mod bytes;
 pub mod call;
 pub mod decode;
+pub mod form;
 pub mod generate;
+pub mod held;
 pub mod image;
 pub mod map;
 pub mod notation;

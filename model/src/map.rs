@@ -2,25 +2,27 @@
 
 use std::ops::Range;
 
-/// Starts and sizes are multiples of this, and so is a heap segment's size.
-pub const SEGMENT: u64 = 8;
+use crate::form::{Form, PLAYER};
 
 /// The null pointer's address; no start is this low, so no area holds it.
 pub const NULL: u32 = 0;
 
+/// The stack's start and size are multiples of this in every form.
+const STACK_MULTIPLE: u64 = 8;
 const LOWEST_START: u64 = 8;
-const LOWEST_SIZE: u64 = 16;
 const HIGHEST_HEAP_SIZE: u64 = 131_072;
 const HIGHEST_STACK_SIZE: u64 = 65_536;
 const HIGHEST_END: u64 = 4_294_967_295;
 
-/// Where the two areas lie.
+/// Where the two areas lie, under a form: what is good and what a block takes
+/// there depends on it.
 #[derive(Clone, Copy, Debug, Default, PartialEq, Eq)]
 pub struct Map {
     pub heap_start: u32,
     pub heap_size: u32,
     pub stack_start: u32,
     pub stack_size: u32,
+    pub form: Form,
 }
 
 /// One of the two areas; the stack area also carries static objects.
@@ -31,22 +33,28 @@ pub enum Area {
 }
 
 impl Map {
-    /// A map from its fields in the paper's order.
+    /// A map of the player, from its fields in the paper's order.
     pub const fn new(heap_start: u32, heap_size: u32, stack_start: u32, stack_size: u32) -> Self {
         Map {
             heap_start,
             heap_size,
             stack_start,
             stack_size,
+            form: PLAYER,
         }
+    }
+
+    /// The same four numbers under a form.
+    pub const fn of(self, form: Form) -> Self {
+        Map { form, ..self }
     }
 
     /// Whether the map keeps every rule.
     pub fn good(self) -> bool {
         let heap = self.bounds(Area::Heap);
         let stack = self.bounds(Area::Stack);
-        good_area(&heap, HIGHEST_HEAP_SIZE)
-            && good_area(&stack, HIGHEST_STACK_SIZE)
+        good_area(&heap, self.form.whole(), HIGHEST_HEAP_SIZE)
+            && good_area(&stack, STACK_MULTIPLE, HIGHEST_STACK_SIZE)
             && (heap.end <= stack.start || stack.end <= heap.start)
     }
 
@@ -86,11 +94,12 @@ impl Map {
     }
 }
 
-fn good_area(bounds: &Range<u64>, highest_size: u64) -> bool {
+/// Each area has room for two of what its start and size are multiples of.
+fn good_area(bounds: &Range<u64>, multiple: u64, highest_size: u64) -> bool {
     let size = bounds.end - bounds.start;
-    bounds.start.is_multiple_of(SEGMENT)
-        && size.is_multiple_of(SEGMENT)
+    bounds.start.is_multiple_of(multiple)
+        && size.is_multiple_of(multiple)
         && bounds.start >= LOWEST_START
-        && (LOWEST_SIZE..=highest_size).contains(&size)
+        && (2 * multiple..=highest_size).contains(&size)
         && bounds.end <= HIGHEST_END
 }

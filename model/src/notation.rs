@@ -2,18 +2,23 @@
 //!
 //! `run: records => lines` is an input of the calls program and its output.
 //! `on: bytes : call => number fields then bytes` is one call on shadows that
-//! are zero but for the bytes given. `run[0]` and `on[0]` say that document 01
-//! alone is meant. Lines beginning with `#` are remarks.
+//! are zero but for the bytes given, and `on desk:` is the same at the desk.
+//! `run[0]` and `on[0]` say that document 01 alone is meant. Lines beginning with
+//! `#` are remarks.
 
 use std::str::FromStr;
 
 use crate::call::{Answer, Call, NO_FIELDS};
+use crate::form::DESK;
 use crate::image::Shadows;
 use crate::map::Map;
 use crate::program::encode;
 
 /// The map of the examples.
 pub const EXAMPLE_MAP: Map = Map::new(4096, 64, 8192, 32);
+
+/// The same four numbers at the desk, where the heap has half as many segments.
+pub const DESK_MAP: Map = EXAMPLE_MAP.of(DESK);
 
 /// An example: a run of the program, or one call on given bytes.
 #[derive(Clone, Debug)]
@@ -25,6 +30,7 @@ pub enum Example {
 /// One call on given bytes, its answer, and the bytes that are then stated.
 #[derive(Clone, Debug)]
 pub struct OneCall {
+    pub map: Map,
     pub shadows: Shadows,
     pub call: Call,
     pub answer: Answer,
@@ -102,7 +108,8 @@ pub fn example(line: &str) -> Option<Example> {
             input: records(question).collect::<Option<Vec<_>>>()?.concat(),
             output: lines_of(result),
         }),
-        "on" | "on[0]" => one_call(question, result).map(Example::On),
+        "on" | "on[0]" => one_call(EXAMPLE_MAP, question, result).map(Example::On),
+        "on desk" => one_call(DESK_MAP, question, result).map(Example::On),
         _ => None,
     }
 }
@@ -125,10 +132,11 @@ pub(crate) fn lines_of(text: &str) -> Vec<u8> {
         .collect()
 }
 
-fn one_call(question: &str, result: &str) -> Option<OneCall> {
-    let (shadows, call) = asked(question)?;
+fn one_call(map: Map, question: &str, result: &str) -> Option<OneCall> {
+    let (shadows, call) = asked(map, question)?;
     let (answer, then) = result.split_once("then").unwrap_or((result, ""));
     Some(OneCall {
+        map,
         shadows,
         call,
         answer: answer_of(answer)?,
@@ -136,13 +144,13 @@ fn one_call(question: &str, result: &str) -> Option<OneCall> {
     })
 }
 
-/// The shadows and the call of `bytes : call`.
-pub fn asked(text: &str) -> Option<(Shadows, Call)> {
+/// The shadows and the call of `bytes : call` under a map.
+pub fn asked(map: Map, text: &str) -> Option<(Shadows, Call)> {
     let (bytes, call) = text.split_once(':')?;
     if !bytes.is_empty() && !bytes.starts_with(' ') {
         return None;
     }
-    let mut shadows = Shadows::cleared(EXAMPLE_MAP);
+    let mut shadows = Shadows::cleared(map);
     put(&mut shadows, &bytes_of(bytes)?)?;
     Some((shadows, call_of(call)?))
 }

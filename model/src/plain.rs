@@ -5,8 +5,8 @@
 
 use crate::block::{footprint, meet, placement_as, Beginning, Block};
 use crate::call::{refusal, Answer, Call, Outcome, NO_FIELDS};
-use crate::image::{image, EIGHT};
-use crate::map::{Area, Map, NULL, SEGMENT};
+use crate::image::image;
+use crate::map::{Area, Map, NULL};
 
 /// What the paper calls the plain list, whatever holds its blocks.
 pub trait List {
@@ -79,10 +79,11 @@ impl PlainList {
     /// The three ways to record.
     fn record(&mut self, base: u32, length: u32, beginning: Beginning) -> Outcome {
         let area = placement_as(beginning, self.map, base, length)?;
-        let place = footprint(area, base, length);
+        let form = self.map.form;
+        let place = footprint(form, area, base, length);
         let taken = self.blocks.iter().any(|block| {
             self.map.area(block.base) == Some(area)
-                && meet(&footprint(area, block.base, block.length), &place)
+                && meet(&footprint(form, area, block.base, block.length), &place)
         });
         if taken {
             return Err(refusal::TAKEN);
@@ -174,13 +175,14 @@ impl PlainList {
         not_zero(length)?;
         let gaps = self.gaps();
         let looked_at = &gaps[..gaps.len().min(budget as usize)];
-        let taken = SEGMENT + u64::from(length);
+        let segment = self.map.form.whole();
+        let taken = segment + u64::from(length);
         let fitting = looked_at.iter().filter(|&&(_, size)| size >= taken);
         // Of equal gaps this is the first, and so the lowest.
         let chosen = fitting.min_by_key(|&&(_, size)| size);
         let &(start, size) = chosen.ok_or(refusal::NO_GAP)?;
-        let surplus = size - taken.next_multiple_of(SEGMENT);
-        let base = (start + SEGMENT) as u32;
+        let surplus = size - taken.next_multiple_of(segment);
+        let base = (start + segment) as u32;
         Ok([base, looked_at.len() as u32, surplus as u32, 0])
     }
 
@@ -188,15 +190,16 @@ impl PlainList {
     /// that are not zero, or between one and an end of the heap.
     fn gaps(&self) -> Vec<(u64, u64)> {
         let heap = image(self.map, &self.blocks).heap;
-        let segments: Vec<&[u8]> = heap.chunks(EIGHT).collect();
+        let segments: Vec<&[u8]> = heap.chunks(self.map.form.bytes()).collect();
         let mut start = self.map.bounds(Area::Heap).start;
         let mut gaps = Vec::new();
-        for between in segments.split(|segment| **segment != [0; EIGHT]) {
-            let size = SEGMENT * between.len() as u64;
+        let taken = |segment: &&[u8]| segment.iter().any(|&byte| byte != 0);
+        for between in segments.split(taken) {
+            let size = self.map.form.whole() * between.len() as u64;
             if size > 0 {
                 gaps.push((start, size));
             }
-            start += size + SEGMENT;
+            start += size + self.map.form.whole();
         }
         gaps
     }

@@ -5,7 +5,7 @@ use std::iter::once;
 
 use crate::block::{footprint, meet, placement_as, Beginning, Block};
 use crate::call::{refusal, Answer, Call, Outcome, NO_FIELDS};
-use crate::map::{Area, Map, NULL, SEGMENT};
+use crate::map::{Area, Map, NULL};
 use crate::plain::{not_literal, not_zero, totals, List};
 
 /// The plain list on a balanced tree, a peer for timing.
@@ -59,13 +59,14 @@ impl PlainTree {
     /// The three ways to record.
     fn record(&mut self, base: u32, length: u32, beginning: Beginning) -> Outcome {
         let area = placement_as(beginning, self.map, base, length)?;
-        let place = footprint(area, base, length);
+        let form = self.map.form;
+        let place = footprint(form, area, base, length);
         // Footprints are disjoint and in base order, so only neighbours can meet.
         let before = self.blocks.range(..base).next_back();
         let after = self.blocks.range(base..).next();
         let taken = before.into_iter().chain(after).any(|(_, block)| {
             self.map.area(block.base) == Some(area)
-                && meet(&footprint(area, block.base, block.length), &place)
+                && meet(&footprint(form, area, block.base, block.length), &place)
         });
         if taken {
             return Err(refusal::TAKEN);
@@ -160,7 +161,8 @@ impl PlainTree {
         let mut free_from = heap.start;
         let mut looked_at = 0;
         let mut chosen: Option<(u64, u32)> = None;
-        let taken = blocks.map(|(&base, block)| footprint(Area::Heap, base, block.length));
+        let footprint = |base, length| footprint(self.map.form, Area::Heap, base, length);
+        let taken = blocks.map(|(&base, block)| footprint(base, block.length));
         for next in taken.chain(once(heap.end..heap.end)) {
             let gap = free_from..next.start;
             free_from = next.end;
@@ -168,9 +170,9 @@ impl PlainTree {
                 continue;
             }
             looked_at += 1;
-            let base = (gap.start + SEGMENT) as u32;
+            let base = (gap.start + self.map.form.whole()) as u32;
             // The block's own footprint would begin where the gap does.
-            let end = footprint(Area::Heap, base, length).end;
+            let end = footprint(base, length).end;
             let surplus = gap.end.checked_sub(end);
             // For one length the smaller gap is the one with less surplus.
             chosen = match (surplus, chosen) {

@@ -1,8 +1,8 @@
 //! Readings: what one address says on any shadow bytes of the right lengths.
 
 use crate::call::refusal;
-use crate::image::{EIGHT, PIECE_CODE};
-use crate::map::{Area, Map, SEGMENT};
+use crate::image::{PIECE, PIECE_CODE};
+use crate::map::{Area, Map};
 
 /// The shadows under their map, to look at only.
 #[derive(Clone, Copy, Debug)]
@@ -66,21 +66,27 @@ impl View<'_> {
     }
 
     fn read_heap(&self, address: u32) -> Reading {
+        let (width, size) = (self.map.form.width, self.map.form.bytes());
         let bounds = self.map.bounds(Area::Heap);
-        let place = self.map.position(Area::Heap, address) % EIGHT;
+        let place = self.map.position(Area::Heap, address) % size;
         let position = self.map.position(Area::Heap, address) - place;
-        let w = number(self.heap, position);
+        let w = wide_number(&self.heap[position..position + width]);
         if w == 0 {
             return Reading::NoBlock;
         }
         let distance = i128::from(w) - 1;
         let base = i128::from(address) - place as i128 - distance;
-        // The header lies inside the shadow only once these two are settled.
-        if distance % i128::from(SEGMENT) != 0 || base < i128::from(bounds.start + SEGMENT) {
+        let lowest = i128::from(bounds.start) + size as i128;
+        // The header lies inside the shadow only once these are settled.
+        if w >= TOO_HIGH || distance % size as i128 != 0 || base < lowest {
             return Reading::Damaged;
         }
-        let header = position - distance as usize - EIGHT;
-        let length = i128::from(number(self.heap, header + 4));
+        let header = position - distance as usize - size;
+        let length = wide_number(&self.heap[header + width..header + 2 * width]);
+        if length >= TOO_HIGH {
+            return Reading::Damaged;
+        }
+        let length = i128::from(length);
         if length == 0 || base + length > i128::from(bounds.end) || distance >= length {
             return Reading::Damaged;
         }
@@ -92,7 +98,7 @@ impl View<'_> {
             base: base as u32,
             length: length as u32,
             offset: offset as u32,
-            written: self.heap[position + 4] >> place & 1 == 1,
+            written: self.heap[position + width + place / 8] >> (place % 8) & 1 == 1,
             literal: false,
         })
     }
@@ -122,7 +128,7 @@ impl View<'_> {
     /// Length and offset that a byte j places into a piece tells, if undamaged.
     fn piece(&self, position: usize, j: usize) -> Option<(i128, i128)> {
         let at = position.checked_sub(j)?;
-        let bytes = self.secondary.get(at..at + EIGHT)?;
+        let bytes = self.secondary.get(at..at + PIECE)?;
         let length = i128::from(number(bytes, 0));
         let o = i128::from(number(bytes, 4));
         let j = j as i128;
@@ -164,6 +170,15 @@ pub fn short_block(code: u8) -> (u32, u32) {
         first += length;
     }
     unreachable!("code {code} is not short")
+}
+
+/// Numbers from here on are damage, however wide (S-8).
+const TOO_HIGH: u64 = 1 << 32;
+
+/// The little-endian number in so many bytes, eight at most.
+pub(crate) fn wide_number(bytes: &[u8]) -> u64 {
+    let bytes = bytes.iter().rev();
+    bytes.fold(0, |above, &byte| above << 8 | u64::from(byte))
 }
 
 /// The little-endian number in four bytes from a position on.

@@ -8,7 +8,8 @@
 
 use crate::bytes;
 use crate::call::Answer;
-use crate::notation::{asked, records, Shadow, EXAMPLE_MAP};
+use crate::map::Map;
+use crate::notation::{asked, records, Shadow, DESK_MAP, EXAMPLE_MAP};
 use crate::origins;
 use crate::origins::notation::Lent;
 use crate::program;
@@ -42,7 +43,9 @@ fn right_hand_side(line: &str) -> String {
     }
     let known = |head: &str| line.strip_prefix(head);
     let side = if let Some(question) = known("on:") {
-        call_side(question)
+        call_side(EXAMPLE_MAP, question)
+    } else if let Some(question) = known("on desk:") {
+        call_side(DESK_MAP, question)
     } else if let Some(records) = known("run:") {
         Some(run_side(records, program::run))
     } else if let Some(question) = known("on origins:") {
@@ -69,11 +72,11 @@ fn run_side(text: &str, run: fn(&[u8]) -> Vec<u8>) -> String {
     told.join("; ")
 }
 
-fn call_side(question: &str) -> Option<String> {
-    let (before, call) = asked(question)?;
+fn call_side(map: Map, question: &str) -> Option<String> {
+    let (before, call) = asked(map, question)?;
     let mut after = before.clone();
     let answer = bytes::call(
-        EXAMPLE_MAP,
+        map,
         &mut after.heap,
         &mut after.primary,
         &mut after.secondary,

@@ -73,6 +73,11 @@ fn remove() {
 }
 
 #[test]
+fn desk() {
+    assert_eq!(check("desk.txt"), 119);
+}
+
+#[test]
 fn marks() {
     assert_eq!(check("marks.txt"), 119);
 }

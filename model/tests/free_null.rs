@@ -2,7 +2,7 @@
 
 mod common;
 
-use common::lent::{any_lent, any_state, outside};
+use common::lent::{any_lent, any_map, any_state, outside};
 use common::on;
 use model::call::{refusal, Answer, Call, NO_FIELDS};
 use model::generate::file::file;
@@ -59,7 +59,7 @@ fn between_calls<L: List>() {
     for seed in 0..2000 {
         println!("seed {seed}");
         let mut random = Random::new(seed);
-        let map = generate::map(&mut random, Scale::Crowded);
+        let map = any_map(&mut random);
         let (mut with, mut without) = (L::new(map), PlainList::new(map));
         for _ in 0..60 {
             assert_eq!(with.step(FREE_NULL), ACCEPTED, "{map:?}");

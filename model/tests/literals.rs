@@ -5,6 +5,7 @@ mod common;
 
 use std::collections::BTreeMap;
 
+use common::lent::any_map;
 use common::step;
 use model::call::{refusal, Call};
 use model::generate::{self, shadows, Scale};
@@ -42,7 +43,7 @@ fn marked(map: Map, shadows: &Shadows, address: u32) -> bool {
 
 /// A map, bytes of any kind under it, and a call that is drawn for them.
 fn any(random: &mut Random) -> (Map, Shadows, Call) {
-    let map = generate::map(random, Scale::Crowded);
+    let map = any_map(random);
     let (bytes, call) = shadows::any(random, map);
     (map, bytes, call)
 }
@@ -168,7 +169,7 @@ fn literal_recorded(map: Map, bytes: &Shadows, base: u32, length: u32, met: &mut
 #[test]
 fn audit_with_marks_and_without() {
     let mut met = [0; 5];
-    for seed in 0..60_000 {
+    for seed in 0..80_000 {
         println!("seed {seed}");
         let (map, bytes, _) = any(&mut Random::new(seed));
         let (said, _) = step(map, &bytes, Call::Audit);

@@ -8,6 +8,7 @@ use common::{on, on_bytes, texts};
 use model::bytes;
 use model::call::{refusal, Answer, Call};
 use model::decode::decode;
+use model::form::{Form, FORMS};
 use model::image::Shadows;
 use model::map::Map;
 use model::notation::{Example, EXAMPLE_MAP};
@@ -61,7 +62,8 @@ fn every_sample_and_edge() {
     assert!(images > 40, "{images}");
 }
 
-/// More gaps than the samples' heap has: a dot is a zero segment.
+/// More gaps than the samples' heap has: a dot is a zero segment. At the desk,
+/// whose segments are twice as long, so are lengths, places and surplus.
 #[test]
 fn several_gaps() {
     let cases: [(&str, u32, u32, Answer); 16] = [
@@ -83,11 +85,28 @@ fn several_gaps() {
         ("x.....x...x....", 33, 9, Err(14).into()),
     ];
     for (picture, length, budget, expected) in cases {
-        let map = Map::new(4096, 8 * picture.len() as u32, 65_536, 16);
-        let mut bytes = Shadows::cleared(map);
-        for (segment, _) in picture.match_indices('x') {
-            bytes.heap[8 * segment + 5] = 16;
+        for form in FORMS {
+            placed(form, picture, length, budget, expected);
         }
+    }
+}
+
+fn placed(form: Form, picture: &str, length: u32, budget: u32, expected: Answer) {
+    let times = form.segment / 8;
+    let size = form.segment * picture.len() as u32;
+    let map = Map::new(4096, size, 65_536, 16).of(form);
+    let mut bytes = Shadows::cleared(map);
+    for (segment, _) in picture.match_indices('x') {
+        bytes.heap[form.bytes() * segment + 5] = 16;
+    }
+    let Answer { number, mut fields } = expected;
+    if number == 0 {
+        fields[0] = 4096 + times * (fields[0] - 4096);
+        fields[2] *= times;
+    }
+    let expected = Answer { number, fields };
+    // Either of these takes as many segments as the length does at the player.
+    for length in [times * length, times * (length - 1) + 1] {
         let said = place(map, &bytes, length, budget);
         assert_eq!(said, expected, "{picture} {length} {budget}");
     }
@@ -95,29 +114,39 @@ fn several_gaps() {
 
 #[test]
 fn the_largest_heap() {
-    for start in [8, 4_294_967_288 - 131_072] {
-        let map = Map::new(start, 131_072, 262_144, 16);
-        let mut bytes = Shadows::cleared(map);
-        let mut tree = PlainTree::new(map);
-        let mut both = |bytes: &Shadows, length, budget| {
-            let said = place(map, bytes, length, budget);
-            assert_eq!(tree.step(Call::Place { length, budget }), said);
-            said
-        };
-        let whole = Ok([start + 8, 1, 0, 0]).into();
-        assert_eq!(both(&bytes, 131_064, u32::MAX), whole);
-        assert_eq!(both(&bytes, 131_065, u32::MAX), Err(14).into());
-        assert_eq!(both(&bytes, u32::MAX, u32::MAX), Err(14).into());
-        // Gaps of one segment, and one of two at the very end.
-        for segment in (1..16_382).step_by(2) {
-            bytes.heap[8 * segment] = 1;
+    for form in FORMS {
+        let highest = (131_072 + form.segment).wrapping_neg();
+        for start in [form.segment, highest] {
+            the_largest_heap_at(form, start);
         }
-        assert_eq!(place(map, &bytes, 8, 8191), Err(14).into());
-        let last = start + 131_064;
-        assert_eq!(place(map, &bytes, 8, 8192), Ok([last, 8192, 0, 0]).into());
-        assert_eq!(place(map, &bytes, 8, 8193), Ok([last, 8192, 0, 0]).into());
-        assert_eq!(place(map, &bytes, 9, u32::MAX), Err(14).into());
     }
+}
+
+fn the_largest_heap_at(form: Form, start: u32) {
+    let map = Map::new(start, 131_072, 262_144, 16).of(form);
+    let g = form.segment;
+    let (largest, segments) = (131_072 - g, 131_072 / form.bytes());
+    let gaps = segments as u32 / 2;
+    let mut bytes = Shadows::cleared(map);
+    let mut tree = PlainTree::new(map);
+    let mut both = |bytes: &Shadows, length, budget| {
+        let said = place(map, bytes, length, budget);
+        assert_eq!(tree.step(Call::Place { length, budget }), said);
+        said
+    };
+    let whole = Ok([start + g, 1, 0, 0]).into();
+    assert_eq!(both(&bytes, largest, u32::MAX), whole);
+    assert_eq!(both(&bytes, largest + 1, u32::MAX), Err(14).into());
+    assert_eq!(both(&bytes, u32::MAX, u32::MAX), Err(14).into());
+    // Gaps of one segment, and one of two at the very end.
+    for segment in (1..segments - 2).step_by(2) {
+        bytes.heap[form.bytes() * segment] = 1;
+    }
+    assert_eq!(place(map, &bytes, g, gaps - 1), Err(14).into());
+    let last = Ok([start + largest, gaps, 0, 0]).into();
+    assert_eq!(place(map, &bytes, g, gaps), last);
+    assert_eq!(place(map, &bytes, g, gaps + 1), last);
+    assert_eq!(place(map, &bytes, g + 1, u32::MAX), Err(14).into());
 }
 
 /// 1 and 2 come before 3 and 14.

@@ -3,8 +3,10 @@
 mod common;
 
 use common::gaps::{defined, gaps, place};
+use common::lent::any_map;
 use common::on;
 use model::call::{refusal, Call};
+use model::form::{FORMS, PLAYER};
 use model::generate::places::{gapped, place_on};
 use model::generate::{self, shadows, Scale};
 use model::image::{image, Shadows};
@@ -18,11 +20,14 @@ use model::plain::{List, PlainList};
 use model::plain_btree::PlainTree;
 use model::random::Random;
 
-/// A heap at either end of the address space or between, and bytes of any kind.
+/// A heap of either form at either end of the address space or between, and bytes
+/// of any kind.
 fn any(random: &mut Random) -> (Map, Shadows) {
-    let size = 8 * random.between(2, 40);
-    let start = random.pick(&[8, 4096, 4_294_967_288 - size]);
-    let map = Map::new(start, size, 65_536, 16);
+    let form = random.pick(&FORMS);
+    let segment = form.segment;
+    let size = segment * random.between(2, 40);
+    let start = random.pick(&[segment, 4096, (segment + size).wrapping_neg()]);
+    let map = Map::new(start, size, 65_536, 16).of(form);
     let changes = random.below(4);
     let bytes = match random.below(4) {
         0 => shadows::noise(random, map),
@@ -33,8 +38,8 @@ fn any(random: &mut Random) -> (Map, Shadows) {
 }
 
 /// Length and budget of a question for these bytes.
-fn asked(random: &mut Random, bytes: &Shadows) -> (u32, u32) {
-    match place_on(random, &bytes.heap) {
+fn asked(random: &mut Random, map: Map, bytes: &Shadows) -> (u32, u32) {
+    match place_on(random, map.form, &bytes.heap) {
         Call::Place { length, budget } => (length, budget),
         other => panic!("no place: {other:?}"),
     }
@@ -71,12 +76,12 @@ impl Met {
 #[test]
 fn the_answer_is_the_definitions() {
     let mut met = Met::default();
-    for seed in 0..20_000 {
+    for seed in 0..40_000 {
         println!("seed {seed}");
         let mut random = Random::new(seed);
         let (map, bytes) = any(&mut random);
         for _ in 0..3 {
-            let (length, budget) = asked(&mut random, &bytes);
+            let (length, budget) = asked(&mut random, map, &bytes);
             let said = place(map, &bytes, length, budget);
             let expected = defined(map, &bytes.heap, length, budget);
             assert_eq!(said, expected, "{map:?} {length} {budget} {bytes:?}");
@@ -92,10 +97,10 @@ fn the_answer_is_the_definitions() {
 /// What an accepted place tried.
 fn tried(map: Map, bytes: &Shadows, length: u32, fields: [u32; 4], met: &mut Met) {
     let [base, looked_at, surplus, _] = fields;
-    let all = gaps(&bytes.heap);
-    let first = ((base - map.heap_start) / 8 - 1) as usize;
+    let all = gaps(map.form, &bytes.heap);
+    let first = ((base - map.heap_start) / map.form.segment - 1) as usize;
     let at = all.iter().position(|gap| gap.0 == first).expect("a gap");
-    let needed = length.div_ceil(8) as usize + 1;
+    let needed = length.div_ceil(map.form.segment) as usize + 1;
     let size = all[at].1;
     let (seen, unseen) = all.split_at(looked_at as usize);
     met.not_the_first += u32::from(seen[..at].iter().any(|gap| gap.1 > size));
@@ -115,8 +120,8 @@ fn larger_budgets() {
         println!("seed {seed}");
         let mut random = Random::new(seed);
         let (map, bytes) = any(&mut random);
-        let (length, _) = asked(&mut random, &bytes);
-        let all = gaps(&bytes.heap).len() as u32;
+        let (length, _) = asked(&mut random, map, &bytes);
+        let all = gaps(map.form, &bytes.heap).len() as u32;
         let budgets = (0..=all + 2).chain([1 << 16, 1 << 31, u32::MAX]);
         let answers = budgets.map(|budget| (budget, place(map, &bytes, length, budget)));
         let mut surplus = None;
@@ -147,15 +152,19 @@ fn the_place_takes_the_block() {
         println!("seed {seed}");
         let mut random = Random::new(seed);
         let (map, bytes) = any(&mut random);
-        let (length, budget) = asked(&mut random, &bytes);
+        let (length, budget) = asked(&mut random, map, &bytes);
         let said = place(map, &bytes, length, budget);
         let takes = |call| on(map, &mut bytes.clone(), call).number;
         if said.number == 0 {
             let [base, _, surplus, _] = said.fields;
-            let most = length.next_multiple_of(8) + surplus;
+            let most = length.next_multiple_of(map.form.segment) + surplus;
             for length in [length, most] {
                 assert_eq!(takes(Call::Record { base, length }), 0, "{map:?}");
                 assert_eq!(takes(Call::RecordWritten { base, length }), 0, "{map:?}");
+                // The form with origins is the player's alone.
+                if map.form != PLAYER {
+                    continue;
+                }
                 let mut state = State::cleared(map);
                 state.shadows = bytes.clone();
                 let call = OriginsCall::Plain(Call::RecordWritten { base, length });
@@ -165,7 +174,8 @@ fn the_place_takes_the_block() {
             assert_ne!(takes(Call::Record { base, length }), 0, "{map:?}");
             met[0] += 1;
         } else if length > 0 && place(map, &bytes, length, u32::MAX).number == refusal::NO_GAP {
-            for base in (map.heap_start..map.heap_start + map.heap_size).step_by(8) {
+            let bases = map.heap_start..map.heap_start + map.heap_size;
+            for base in bases.step_by(map.form.bytes()) {
                 assert_ne!(takes(Call::Record { base, length }), 0, "{map:?} {base}");
             }
             met[1] += 1;
@@ -182,14 +192,15 @@ fn no_other_byte_decides() {
         let mut random = Random::new(seed);
         let (map, bytes) = any(&mut random);
         let mut other = shadows::noise(&mut random, map);
-        let segments = bytes.heap.chunks(8).zip(other.heap.chunks_mut(8));
+        let size = map.form.bytes();
+        let segments = bytes.heap.chunks(size).zip(other.heap.chunks_mut(size));
         for (segment, other) in segments {
             other.fill(0);
-            if segment != [0; 8] {
-                other[random.below(8) as usize] = 1 << random.below(8);
+            if segment.iter().any(|&byte| byte != 0) {
+                other[random.below(size as u64) as usize] = 1 << random.below(8);
             }
         }
-        let (length, budget) = asked(&mut random, &bytes);
+        let (length, budget) = asked(&mut random, map, &bytes);
         let said = place(map, &bytes, length, budget);
         assert_eq!(place(map, &other, length, budget), said, "{map:?}");
     }
@@ -202,7 +213,7 @@ fn lists_on_their_own_image() {
     for seed in 0..4000 {
         println!("seed {seed}");
         let mut random = Random::new(seed);
-        let map = generate::map(&mut random, Scale::Crowded);
+        let map = any_map(&mut random);
         let (mut list, mut tree) = (PlainList::new(map), PlainTree::new(map));
         for _ in 0..60 {
             let call = generate::call(&mut random, map, list.blocks());
@@ -211,7 +222,7 @@ fn lists_on_their_own_image() {
         }
         let bytes = image(map, list.blocks());
         for _ in 0..8 {
-            let (length, budget) = asked(&mut random, &bytes);
+            let (length, budget) = asked(&mut random, map, &bytes);
             let expected = defined(map, &bytes.heap, length, budget);
             let call = Call::Place { length, budget };
             assert_eq!(list.step(call), expected, "{map:?} {call:?}");
@@ -235,7 +246,8 @@ fn placed_blocks_fill_the_heap() {
         let mut list = PlainList::new(map);
         let mut shadows = Shadows::cleared(map);
         for _ in 0..60 {
-            let (length, budget) = (random.between(1, 30), random.between(1, 6));
+            let longest = 4 * map.form.segment;
+            let (length, budget) = (random.between(1, longest), random.between(1, 6));
             let call = Call::Place { length, budget };
             let said = on(map, &mut shadows, call);
             assert_eq!(list.step(call), said, "{map:?} {call:?}");

@@ -7,6 +7,7 @@ use model::block::Block;
 use model::bytes;
 use model::call::{refusal, Answer, Call};
 use model::decode::decode;
+use model::form::{Form, DESK, FORMS, PLAYER};
 use model::generate::{self, shadows, Scale};
 use model::image::{image, Shadows};
 use model::map::{Area, Map};
@@ -110,7 +111,11 @@ fn changes_stay_inside(map: Map, bytes: &Shadows, call: Call) {
         Call::Written { .. } if answer.number == 0 => {
             assert!(shadows.secondary == bytes.secondary);
             let heap = bytes.heap.iter().zip(&shadows.heap).enumerate();
-            assert!(heap.clone().all(|(i, (b, a))| b == a || i % 8 == 4));
+            let bits = |i: usize| match map.form {
+                PLAYER => i % 8 == 4,
+                _ => [8, 9].contains(&(i % 16)),
+            };
+            assert!(heap.clone().all(|(i, (b, a))| b == a || bits(i)));
             assert!(heap
                 .clone()
                 .all(|(_, (before, after))| before & !after == 0));
@@ -138,13 +143,12 @@ fn hard_bytes(random: &mut Random, map: Map) -> Shadows {
     }
 }
 
-#[test]
-fn audit_and_calls_on_hard_bytes() {
+fn hard_bytes_of(form: Form) {
     let mut accepted = 0;
     for seed in 0..6000 {
         println!("seed {seed}");
         let mut random = Random::new(seed);
-        let map = generate::map(&mut random, Scale::Crowded);
+        let map = generate::map_of(form, &mut random, Scale::Crowded);
         let bytes = hard_bytes(&mut random, map);
         accepted += u32::from(audit_is_honest(map, &bytes));
         calls_follow_readings(&mut random, map, &bytes);
@@ -158,10 +162,20 @@ fn audit_and_calls_on_hard_bytes() {
 }
 
 #[test]
-fn every_change_of_one_byte() {
-    let map = Map::new(40, 40, 8, 32);
+fn audit_and_calls_on_hard_bytes() {
+    hard_bytes_of(PLAYER);
+}
+
+#[test]
+fn audit_and_calls_on_hard_bytes_at_the_desk() {
+    hard_bytes_of(DESK);
+}
+
+/// Two heap blocks, and stack blocks and literals below them.
+fn every_change_of(map: Map, heap: [(u32, u32); 2]) {
     let mut list = PlainList::new(map);
-    for (base, length) in [(48, 5), (64, 9), (8, 2), (10, 11), (21, 4)] {
+    let stack = [(8, 2), (10, 11), (21, 4)];
+    for (base, length) in heap.into_iter().chain(stack) {
         assert_eq!(list.step(Call::Record { base, length }).number, 0);
         let address = base + 1;
         list.step(Call::Written { address, n: 1 });
@@ -171,49 +185,73 @@ fn every_change_of_one_byte() {
     }
     let bytes = image(map, list.blocks());
     let mut accepted = 0;
-    for position in 0..40 + 32 + 32 {
+    let size = map.heap_size as usize;
+    for position in 0..size + 32 + 32 {
         for value in 0..=255 {
             let mut changed = bytes.clone();
-            match position {
-                0..40 => changed.heap[position] = value,
-                40..72 => changed.primary[position - 40] = value,
-                _ => changed.secondary[position - 72] = value,
+            match position.checked_sub(size) {
+                None => changed.heap[position] = value,
+                Some(place @ 0..32) => changed.primary[place] = value,
+                Some(place) => changed.secondary[place - 32] = value,
             }
             accepted += u32::from(audit_is_honest(map, &changed));
         }
     }
     // At least itself once a byte, and each written bit the other way where it may be.
-    assert!(accepted >= 104 + 5 + 9 + 17, "{accepted} accepted");
+    let bits = heap[0].1 + heap[1].1 + 17;
+    assert!(accepted >= map.heap_size + 64 + bits, "{accepted} accepted");
 }
 
 #[test]
-fn a_heap_reading_looks_at_nine_bytes() {
-    for seed in 0..2000 {
+fn every_change_of_one_byte() {
+    every_change_of(Map::new(40, 40, 8, 32), [(48, 5), (64, 9)]);
+    every_change_of(Map::new(48, 96, 8, 32).of(DESK), [(64, 9), (112, 17)]);
+}
+
+/// The two numbers, and one byte of written bits.
+#[test]
+fn a_heap_reading_looks_at_nine_bytes_or_seventeen() {
+    for seed in 0..4000 {
         println!("seed {seed}");
         let mut random = Random::new(seed);
-        let map = generate::map(&mut random, Scale::Crowded);
+        let form = random.pick(&FORMS);
+        let map = generate::map_of(form, &mut random, Scale::Crowded);
         let bytes = shadows::damaged(&mut random, map, 1);
         let offset = random.between(0, map.heap_size - 1);
         let address = map.heap_start + offset;
         let Reading::Block(found) = view(map, &bytes).read(address) else {
             continue;
         };
-        let segment = (offset - offset % 8) as usize;
-        let header = map.position(Area::Heap, found.base) - 8;
+        let segment = (offset - offset % form.segment) as usize;
+        let header = map.position(Area::Heap, found.base) - form.bytes();
+        let bits = match form {
+            PLAYER => segment + 4,
+            _ => segment + 8 + usize::from(offset % 16 > 7),
+        };
         let mut changed = shadows::noise(&mut random, map);
-        changed.heap[segment..segment + 5].copy_from_slice(&bytes.heap[segment..segment + 5]);
-        changed.heap[header + 4..header + 8].copy_from_slice(&bytes.heap[header + 4..header + 8]);
+        let mut looked_at = 0;
+        for (start, length) in [
+            (segment, form.width),
+            (header + form.width, form.width),
+            (bits, 1),
+        ] {
+            let bytes = &bytes.heap[start..start + length];
+            changed.heap[start..start + length].copy_from_slice(bytes);
+            looked_at += length;
+        }
+        assert_eq!(looked_at, if form == DESK { 17 } else { 9 });
         assert_eq!(view(map, &changed).read(address), Reading::Block(found));
     }
 }
 
 #[test]
 fn any_map_and_any_lengths() {
-    for seed in 0..20_000 {
+    for seed in 0..40_000 {
         println!("seed {seed}");
         let mut random = Random::new(seed);
-        let good = generate::map(&mut random, Scale::Crowded);
-        let map = generate::edge_map(&mut random);
+        let form = random.pick(&FORMS);
+        let good = generate::map_of(form, &mut random, Scale::Crowded);
+        let map = generate::edge_map_of(form, &mut random);
         let call = generate::call(&mut random, good, &[]);
         let mut right = Shadows::cleared(good);
         if !map.good() {

@@ -4,6 +4,7 @@ mod common;
 
 use common::on;
 use model::call::Call;
+use model::form::{Form, DESK, FORMS, PLAYER};
 use model::generate::{self, Scale};
 use model::image::{image, Shadows};
 use model::map::Map;
@@ -42,13 +43,12 @@ fn run(random: &mut Random, map: Map, calls: u32, met: &mut Met) {
     assert_eq!(tree.listed(), list.listed());
 }
 
-#[test]
-fn crowded_areas() {
+fn crowded(form: Form) {
     let mut met = Met::default();
     for seed in 0..6000 {
         println!("seed {seed}");
         let mut random = Random::new(seed);
-        let map = generate::map(&mut random, Scale::Crowded);
+        let map = generate::map_of(form, &mut random, Scale::Crowded);
         run(&mut random, map, 200, &mut met);
     }
     // Every number that a list can give was met by every call that can give it.
@@ -85,39 +85,75 @@ fn crowded_areas() {
 }
 
 #[test]
-fn full_size() {
+fn crowded_areas_of_the_player() {
+    crowded(PLAYER);
+}
+
+#[test]
+fn crowded_areas_of_the_desk() {
+    crowded(DESK);
+}
+
+/// What both forms have in common holds for any two sizes that a form may have, so
+/// that no size of either can stand where the other is meant.
+#[test]
+fn crowded_areas_of_forms_that_there_are_not() {
     let mut met = Met::default();
-    for seed in 0..12 {
-        println!("seed {seed}");
-        let mut random = Random::new(seed);
-        let map = generate::map(&mut random, Scale::Full);
-        run(&mut random, map, 250, &mut met);
+    for (width, segment) in [(4, 16), (5, 16), (7, 16), (8, 24), (4, 32), (8, 64)] {
+        for seed in 0..300 {
+            println!("seed {seed}");
+            let mut random = Random::new(seed);
+            let form = Form { width, segment };
+            let map = generate::map_of(form, &mut random, Scale::Crowded);
+            run(&mut random, map, 200, &mut met);
+        }
     }
 }
 
 #[test]
-fn maps_lie_at_the_bottom_at_the_top_and_touch_in_both_orders() {
+fn full_size() {
+    let mut met = Met::default();
+    for seed in 0..24 {
+        println!("seed {seed}");
+        let mut random = Random::new(seed);
+        let form = random.pick(&FORMS);
+        let map = generate::map_of(form, &mut random, Scale::Full);
+        run(&mut random, map, 250, &mut met);
+    }
+}
+
+fn maps_lie_everywhere(form: Form) {
     let mut random = Random::new(1);
+    let g = form.segment;
     let maps: Vec<Map> = (0..400)
-        .map(|_| generate::map(&mut random, Scale::Crowded))
+        .map(|_| generate::map_of(form, &mut random, Scale::Crowded))
         .collect();
-    let any = |holds: fn(&Map) -> bool| assert!(maps.iter().any(holds));
-    any(|map| map.heap_start == 8);
-    any(|map| map.stack_start == 8);
-    any(|map| map.heap_start + map.heap_size == 4_294_967_288);
-    any(|map| map.stack_start + map.stack_size == 4_294_967_288);
-    any(|map| map.heap_start + map.heap_size == map.stack_start);
-    any(|map| map.stack_start + map.stack_size == map.heap_start);
-    any(|map| map.heap_size == 16);
-    any(|map| map.stack_size == 16);
+    let any = |holds: &dyn Fn(&Map) -> bool| assert!(maps.iter().any(holds));
+    any(&|map| map.heap_start == g);
+    any(&|map| map.stack_start == 8);
+    any(&|map| map.heap_start + map.heap_size == g.wrapping_neg());
+    any(&|map| map.stack_start + map.stack_size == 4_294_967_288);
+    any(&|map| map.heap_start + map.heap_size == map.stack_start);
+    any(&|map| map.stack_start + map.stack_size == map.heap_start);
+    any(&|map| map.heap_size == 2 * g);
+    any(&|map| map.stack_size == 16);
+    any(&|map| map.stack_start % 16 == 8);
+    any(&|map| map.stack_size % 16 == 8);
 }
 
 #[test]
-fn a_full_area_of_the_smallest_blocks() {
-    let map = Map::new(65_544, 131_072, 8, 65_536);
+fn maps_lie_at_the_bottom_at_the_top_and_touch_in_both_orders() {
+    for form in FORMS {
+        maps_lie_everywhere(form);
+    }
+}
+
+fn full_of_the_smallest_blocks(map: Map, audit: [u32; 4]) {
     let mut tree = PlainTree::new(map);
     let mut shadows = Shadows::cleared(map);
-    let heap = (0..8191).map(|i| map.heap_start + 8 + 16 * i);
+    let g = map.form.segment;
+    let pairs = map.heap_size / (2 * g);
+    let heap = (0..pairs).map(|i| map.heap_start + g + 2 * g * i);
     let stack = (0..65_536).map(|i| map.stack_start + i);
     for base in heap.chain(stack) {
         let length = 1;
@@ -133,5 +169,12 @@ fn a_full_area_of_the_smallest_blocks() {
     assert!(image(map, &tree.listed()) == shadows);
     let answer = on(map, &mut shadows, Call::Audit);
     assert_eq!(answer, tree.step(Call::Audit));
-    assert_eq!(answer.fields, [8191, 65_536, 73_727, 32_768]);
+    assert_eq!(answer.fields, audit);
+}
+
+#[test]
+fn a_full_area_of_the_smallest_blocks() {
+    let map = Map::new(65_552, 131_072, 8, 65_536);
+    full_of_the_smallest_blocks(map, [8192, 65_536, 73_728, 32_768]);
+    full_of_the_smallest_blocks(map.of(DESK), [4096, 65_536, 69_632, 32_768]);
 }

@@ -2,12 +2,14 @@
 
 mod common;
 
+use common::lent::any_map;
 use common::{ending, on};
 use model::call::{Answer, Call};
-use model::generate::{self, shadows, Scale};
+use model::form::DESK;
+use model::generate::{self, shadows};
 use model::image::Shadows;
 use model::map::{Area, Map};
-use model::notation::EXAMPLE_MAP;
+use model::notation::{DESK_MAP, EXAMPLE_MAP};
 use model::plain::{List, PlainList};
 use model::plain_btree::PlainTree;
 use model::random::Random;
@@ -34,11 +36,12 @@ fn in_two_calls(base: u32, length: u32, mut step: impl FnMut(Call) -> Answer) ->
 
 #[test]
 fn the_bytes_are_those_of_record_and_written() {
-    let mut met = [[0; 7]; 2];
+    // The desk's heap, the player's, and the stack.
+    let mut met = [[0; 7]; 3];
     for seed in 0..30_000 {
         println!("seed {seed}");
         let mut random = Random::new(seed);
-        let map = generate::map(&mut random, Scale::Crowded);
+        let map = any_map(&mut random);
         let list = shadows::list(&mut random, map, 8);
         let changes = random.below(3);
         let bytes = shadows::damaged(&mut random, map, changes);
@@ -49,23 +52,27 @@ fn the_bytes_are_those_of_record_and_written() {
         assert_eq!(answer, marked, "{map:?} {base} {length}");
         assert!(one == two, "bytes differ: {map:?} {base} {length}");
         assert_eq!(answer.number == 0, one != bytes, "{map:?} {base} {length}");
-        if let Some(area) = map.area(base) {
-            met[usize::from(area == Area::Stack)][answer.number as usize] += 1;
-        }
+        let place = match map.area(base) {
+            None => continue,
+            Some(Area::Heap) => usize::from(map.form != DESK),
+            Some(Area::Stack) => 2,
+        };
+        met[place][answer.number as usize] += 1;
     }
     for (area, numbers) in met.iter().enumerate() {
         for number in [0, 3, 4, 6] {
             assert!(numbers[number] > 100, "area {area} {number}: {numbers:?}");
         }
     }
-    assert!(met[0][5] > 100 && met[1][5] == 0, "{met:?}");
+    let [desk, player, stack] = met.map(|numbers| numbers[5]);
+    assert!(desk > 100 && player > 100 && stack == 0, "{met:?}");
 }
 
 fn lists_agree<L: List>(calls: u64) {
     for seed in 0..4000 {
         println!("seed {seed}");
         let mut random = Random::new(seed);
-        let map = generate::map(&mut random, Scale::Crowded);
+        let map = any_map(&mut random);
         let (mut one, mut two) = (L::new(map), L::new(map));
         let mut plain = PlainList::new(map);
         for _ in 0..calls {
@@ -118,16 +125,48 @@ fn the_last_segments_bits_stop_at_the_blocks_end() {
     }
 }
 
+/// The same at the desk, where a segment has two bytes of them.
+#[test]
+fn the_last_segments_bits_stop_at_the_blocks_end_at_the_desk() {
+    let cases: [(u32, &[[u8; 2]]); 12] = [
+        (1, &[[1, 0]]),
+        (7, &[[127, 0]]),
+        (8, &[[255, 0]]),
+        (9, &[[255, 1]]),
+        (15, &[[255, 127]]),
+        (16, &[[255, 255]]),
+        (17, &[[255, 255], [1, 0]]),
+        (24, &[[255, 255], [255, 0]]),
+        (25, &[[255, 255], [255, 1]]),
+        (33, &[[255, 255], [255, 255], [1, 0]]),
+        (40, &[[255, 255], [255, 255], [255, 0]]),
+        (48, &[[255, 255], [255, 255], [255, 255]]),
+    ];
+    for (length, bits) in cases {
+        let mut shadows = Shadows::cleared(DESK_MAP);
+        let call = Call::RecordWritten { base: 4112, length };
+        assert_eq!(on(DESK_MAP, &mut shadows, call).number, 0);
+        let mut expected = [0; 64];
+        expected[8] = length as u8;
+        for (index, bits) in bits.iter().enumerate() {
+            expected[16 + 16 * index] = 16 * index as u8 + 1;
+            expected[24 + 16 * index..][..2].copy_from_slice(bits);
+        }
+        assert_eq!(shadows.heap, expected, "{length}");
+    }
+}
+
 /// No mark stays behind where a block has ended.
 #[test]
 fn record_begins_unwritten_where_a_written_block_was() {
-    for base in [4104, 8192, 8195] {
+    let player = [4104, 8192, 8195].map(|base| (EXAMPLE_MAP, base));
+    for (map, base) in player.into_iter().chain([(DESK_MAP, 4112)]) {
         for length in [1, 7, 8, 9, 16, 23] {
-            let mut shadows = Shadows::cleared(EXAMPLE_MAP);
-            let mut step = |call| on(EXAMPLE_MAP, &mut shadows, call);
+            let mut shadows = Shadows::cleared(map);
+            let mut step = |call| on(map, &mut shadows, call);
             step(Call::RecordWritten { base, length });
             assert_eq!(step(Call::Audit).fields[3], length);
-            assert_eq!(step(ending(EXAMPLE_MAP, base)).number, 0);
+            assert_eq!(step(ending(map, base)).number, 0);
             assert_eq!(step(Call::Audit).fields, [0; 4]);
             assert_eq!(step(Call::Record { base, length }).number, 0);
             let [.., live, written] = step(Call::Audit).fields;

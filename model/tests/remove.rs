@@ -5,10 +5,10 @@ mod common;
 
 use std::collections::BTreeMap;
 
-use common::lent::{any_lent, any_state, outside};
+use common::lent::{any_lent, any_map, any_state, outside};
 use common::{addresses, on, step, view};
 use model::call::{refusal, Answer, Call, NO_FIELDS};
-use model::generate::{self, shadows, Scale};
+use model::generate::{self, shadows};
 use model::image::{image, Shadows};
 use model::map::{Area, Map};
 use model::notation::EXAMPLE_MAP;
@@ -36,7 +36,10 @@ fn free_before(map: Map, bytes: &Shadows, base: u32) -> (Answer, Shadows) {
     let area = map.area(base).expect("a block lies in an area");
     let first = map.position(area, base);
     match area {
-        Area::Heap => after.heap[first - 8..first + length.next_multiple_of(8)].fill(0),
+        Area::Heap => {
+            let size = map.form.bytes();
+            after.heap[first - size..first + length.next_multiple_of(size)].fill(0);
+        }
         Area::Stack => {
             after.primary[first..first + length].fill(0);
             after.secondary[first..first + length].fill(0);
@@ -127,7 +130,7 @@ fn accepted_on_images_at_bases_alone() {
     for seed in 0..2000 {
         println!("seed {seed}");
         let mut random = Random::new(seed);
-        let map = generate::map(&mut random, Scale::Crowded);
+        let map = any_map(&mut random);
         let state = after_calls(&mut random, map);
         let all: Vec<u32> = outside(&mut random, map).chain(addresses(map)).collect();
         for base in all {
@@ -236,7 +239,7 @@ fn they_are_drawn_often() {
     };
     for seed in 0..80_000 {
         let mut random = Random::new(seed);
-        let map = generate::map(&mut random, Scale::Crowded);
+        let map = any_map(&mut random);
         let (mut bytes, call) = shadows::any(&mut random, map);
         count(call, on(map, &mut bytes, call).number);
     }
@@ -246,7 +249,7 @@ fn they_are_drawn_often() {
     let (mut removed, mut freed, mut calls) = (0, 0, 0);
     for seed in 0..200 {
         let mut random = Random::new(seed);
-        let map = generate::map(&mut random, Scale::Crowded);
+        let map = any_map(&mut random);
         let mut list = PlainList::new(map);
         for _ in 0..200 {
             let call = generate::call(&mut random, map, list.blocks());

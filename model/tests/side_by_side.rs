@@ -6,27 +6,32 @@ mod common;
 use common::{data, ending, on};
 use model::call::{refusal, Answer, Call};
 use model::image::{image, Shadows};
-use model::notation::EXAMPLE_MAP;
+use model::map::Map;
+use model::notation::{DESK_MAP, EXAMPLE_MAP};
 use model::plain::{List, PlainList};
 
-/// Both models side by side on the map of the samples.
+/// Both models side by side on the map of the samples, in either form.
 struct Both {
+    map: Map,
     list: PlainList,
     shadows: Shadows,
 }
 
+const MAPS: [Map; 2] = [EXAMPLE_MAP, DESK_MAP];
+
 impl Both {
-    fn new() -> Self {
+    fn new(map: Map) -> Self {
         Both {
-            list: PlainList::new(EXAMPLE_MAP),
-            shadows: Shadows::cleared(EXAMPLE_MAP),
+            map,
+            list: PlainList::new(map),
+            shadows: Shadows::cleared(map),
         }
     }
 
     fn step(&mut self, call: Call) -> Answer {
-        let answer = on(EXAMPLE_MAP, &mut self.shadows, call);
+        let answer = on(self.map, &mut self.shadows, call);
         assert_eq!(self.list.step(call), answer, "{call:?}");
-        let image = image(EXAMPLE_MAP, self.list.blocks());
+        let image = image(self.map, self.list.blocks());
         assert_eq!(image, self.shadows, "{call:?}");
         answer
     }
@@ -37,7 +42,7 @@ fn worked_example_call_by_call() {
     let text = String::from_utf8(data("document-01.txt")).expect("example files are text");
     let worked = text.lines().find(|line| line.starts_with("run")).unwrap();
     let (records, lines) = worked.split_once("=>").unwrap();
-    let mut both = Both::new();
+    let mut both = Both::new(EXAMPLE_MAP);
     // The first record is the map, which both have already.
     for (record, line) in records.split(';').zip(lines.split(';')).skip(1) {
         let words = |text: &str| -> Vec<u32> {
@@ -52,11 +57,18 @@ fn worked_example_call_by_call() {
     }
 }
 
+/// Every address of both areas, in each form.
+fn places() -> impl Iterator<Item = (Map, u32)> {
+    let addresses = || (4096..4160).chain(8192..8224);
+    let maps = MAPS.into_iter();
+    maps.flat_map(move |map| addresses().map(move |base| (map, base)))
+}
+
 #[test]
 fn every_block_alone_on_every_address() {
-    for base in (4096..4160).chain(8192..8224) {
+    for (map, base) in places() {
         for length in 0..66 {
-            let mut both = Both::new();
+            let mut both = Both::new(map);
             if both.step(Call::Record { base, length }).number != 0 {
                 continue;
             }
@@ -73,20 +85,20 @@ fn whole_life(both: &mut Both, base: u32) {
         both.step(Call::Ask { address });
     }
     both.step(Call::Audit);
-    both.step(ending(EXAMPLE_MAP, base));
-    assert_eq!(both.shadows, Shadows::cleared(EXAMPLE_MAP));
+    both.step(ending(both.map, base));
+    assert_eq!(both.shadows, Shadows::cleared(both.map));
 }
 
 #[test]
 fn every_literal_alone_on_every_address() {
-    for base in (4096..4160).chain(8192..8224) {
+    for (map, base) in places() {
         for length in 0..34 {
-            let mut both = Both::new();
+            let mut both = Both::new(map);
             let answer = both.step(Call::RecordLiteral { base, length });
             let outside = length > 0 && base < 8192;
             match outside {
                 true => assert_eq!(answer.number, refusal::OUTSIDE),
-                false => assert_eq!(answer, Both::new().step(Call::Record { base, length })),
+                false => assert_eq!(answer, Both::new(map).step(Call::Record { base, length })),
             }
             if answer.number != 0 {
                 continue;
@@ -123,11 +135,11 @@ fn reads_and_is_not_written(both: &mut Both, base: u32, length: u32, address: u3
 
 #[test]
 fn every_block_that_begins_written_alone_on_every_address() {
-    for base in (4096..4160).chain(8192..8224) {
+    for (map, base) in places() {
         for length in 0..66 {
-            let mut both = Both::new();
+            let mut both = Both::new(map);
             let answer = both.step(Call::RecordWritten { base, length });
-            assert_eq!(answer, Both::new().step(Call::Record { base, length }));
+            assert_eq!(answer, Both::new(map).step(Call::Record { base, length }));
             if answer.number != 0 {
                 continue;
             }

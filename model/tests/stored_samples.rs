@@ -6,19 +6,19 @@
 
 mod common;
 
-use common::{data, right_hand_sides, stored};
+use common::{data, right_hand_sides, stored, view};
 use model::call::Call;
 use model::decode::decode;
+use model::form::DESK;
 use model::image::{image, Shadows};
-use model::map::Area;
+use model::map::{Area, Map};
 use model::notation::{example, put, Example, OneCall, EXAMPLE_MAP};
 use model::origins::notation as origins;
 use model::plain::{List, PlainList};
-use model::reading::View;
 use model::samples::{answered, LONGEST_LINE};
 
 /// The files of tests/data whose right-hand sides are stated and stored.
-const STATED: [&str; 17] = [
+const STATED: [&str; 19] = [
     "document-01.txt",
     "open-points.txt",
     "damage.txt",
@@ -36,7 +36,16 @@ const STATED: [&str; 17] = [
     "place.txt",
     "remove.txt",
     "remove-origins.txt",
+    "desk.txt",
+    "desk-damage.txt",
 ];
+
+/// The samples that are one call of the player or of the desk.
+fn calls() -> impl Iterator<Item = (String, String)> {
+    let one_call = |question: &str| question.starts_with("on:") || question.starts_with("on desk:");
+    let sides = right_hand_sides().into_iter();
+    sides.filter(move |(question, side)| one_call(question) && side != "?")
+}
 
 /// A line of a data file as the program reads it, and what is stated of it.
 fn split(line: &str) -> (String, &str) {
@@ -152,8 +161,8 @@ fn each_call_that_can_give_8_does() {
 #[test]
 fn free_of_0_changes_nothing() {
     let mut samples = 0;
-    for (question, side) in right_hand_sides() {
-        if question.starts_with("on:") && question.ends_with(": free 0") {
+    for (question, side) in calls() {
+        if question.ends_with(": free 0") {
             assert_eq!(side, "0", "{question}");
             samples += 1;
         }
@@ -165,10 +174,7 @@ fn free_of_0_changes_nothing() {
 #[test]
 fn free_of_the_stack_and_remove_elsewhere_say_the_same_of_any_bytes() {
     let mut met = [0; 2];
-    for (question, side) in right_hand_sides() {
-        if !question.starts_with("on:") || side == "?" {
-            continue;
-        }
+    for (question, side) in calls() {
         let in_stack = |base| EXAMPLE_MAP.area(base) == Some(Area::Stack);
         match one_call(&question, &side).call {
             Call::Free { base } if in_stack(base) => {
@@ -188,35 +194,23 @@ fn free_of_the_stack_and_remove_elsewhere_say_the_same_of_any_bytes() {
 /// Where the given bytes are an image, the plain list answers alike.
 #[test]
 fn the_plain_list_agrees_on_images() {
-    let mut images = 0;
-    for (question, side) in right_hand_sides() {
-        if !question.starts_with("on:") || side == "?" {
-            continue;
-        }
+    let mut images = [0; 2];
+    for (question, side) in calls() {
         let told = one_call(&question, &side);
-        let Some(mut list) = list_of(&told.shadows) else {
+        let Some(mut list) = list_of(told.map, &told.shadows) else {
             continue;
         };
-        images += 1;
+        images[usize::from(told.map.form == DESK)] += 1;
         assert_eq!(list.step(told.call), told.answer, "{question}");
-        assert_eq!(
-            image(EXAMPLE_MAP, list.blocks()),
-            after(&told),
-            "{question}"
-        );
+        assert_eq!(image(told.map, list.blocks()), after(&told), "{question}");
     }
-    assert!(images > 60);
+    assert!(images[0] > 500 && images[1] > 70, "{images:?}");
 }
 
 /// The list whose image the shadows are, made by calls alone.
-fn list_of(shadows: &Shadows) -> Option<PlainList> {
-    let blocks = decode(View {
-        map: EXAMPLE_MAP,
-        heap: &shadows.heap,
-        primary: &shadows.primary,
-        secondary: &shadows.secondary,
-    })?;
-    let mut list = PlainList::new(EXAMPLE_MAP);
+fn list_of(map: Map, shadows: &Shadows) -> Option<PlainList> {
+    let blocks = decode(view(map, shadows))?;
+    let mut list = PlainList::new(map);
     for block in blocks {
         let (base, length) = (block.base, block.length);
         if block.literal {
@@ -239,6 +233,8 @@ fn remarks_stay_and_other_lines_get_a_question_mark() {
     assert_eq!(text("run:\non::audit"), "run: =>\non::audit => 0 0 0 0 0\n");
     let long = "9".repeat(LONGEST_LINE + 2);
     let cut = &long[1..];
+    // The desk has no calls program.
+    assert_eq!(text("run desk: 9"), "run desk: 9 => ?\n");
     assert_eq!(text(&long), format!("{cut} => ?\n"));
     let fields = " 0".repeat(16);
     assert_eq!(

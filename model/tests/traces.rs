@@ -9,6 +9,7 @@ use common::program::run_on_bytes;
 use common::{data, ending};
 use model::block::{footprint, meet, Block};
 use model::call::Call;
+use model::form::PLAYER;
 use model::map::Area;
 use model::plain::{totals, List, PlainList};
 use model::plain_btree::PlainTree;
@@ -130,8 +131,8 @@ fn because(call: Call, now: &PlainList, then: &PlainList, lines: [&str; 2]) -> B
         list.blocks().iter().any(same)
     };
     let stayed = |base, length| {
-        let place = footprint(Area::Stack, base, length);
-        let meets = |b: &Block| meet(&footprint(Area::Stack, b.base, b.length), &place);
+        let place = footprint(PLAYER, Area::Stack, base, length);
+        let meets = |b: &Block| meet(&footprint(PLAYER, Area::Stack, b.base, b.length), &place);
         let mut blocks = now.blocks().iter().filter(|b| !in_list(then, b));
         now.map().area(base) == Some(Area::Stack) && blocks.any(meets)
     };

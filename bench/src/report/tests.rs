@@ -1,5 +1,6 @@
 //! The table of marks and its place in the page, on numbers chosen by hand.
 
+use super::others::{BEGIN_DESK, BEGIN_FORMS, BEGIN_GAPS};
 use super::*;
 use crate::case::{Case, Group};
 use crate::targets::Target;
@@ -60,7 +61,7 @@ fn forms() -> Report {
     report
 }
 
-/// The same numbers for place beside C.
+/// The same numbers for place beside C, and for the desk form, where E-ACSL's model is counted too.
 fn others() -> Others {
     let mut gaps = forms();
     gaps.titles = vec!["monitor", "C", "memset"];
@@ -71,16 +72,27 @@ fn others() -> Others {
             most: 6.0,
         }]
     };
+    let mut desk = forms();
+    desk.titles = vec!["desk", "player", "shadow"];
+    desk.counts = Some(vec![vec![Some(50.0), Some(200.0), Some(25.0)]]);
     Others {
         forms: forms(),
         gaps,
+        desk,
     }
 }
 
-fn page(tables: &str, forms: &str, gaps: &str, marks: &str) -> String {
-    format!(
-        "# Page\n\n{BEGIN}{tables}{END}\n\n{BEGIN_FORMS}{forms}{END}\n\n{BEGIN_GAPS}{gaps}{END}\n\nBetween.\n\n{BEGIN_MARKS}{marks}{END}\n\nLast.\n"
-    )
+/// A page whose parts are old.
+fn page() -> String {
+    let part = |begin: &str, words: &str| format!("{begin}old {words}{END}\n\n");
+    let others = [
+        part(BEGIN_FORMS, "forms"),
+        part(BEGIN_GAPS, "gaps"),
+        part(BEGIN_DESK, "desk"),
+    ]
+    .concat();
+    let (tables, marks) = (part(BEGIN, "tables"), part(BEGIN_MARKS, "marks"));
+    format!("# Page\n\n{tables}{others}Between.\n\n{marks}Last.\n")
 }
 
 /// Medians 8 and 3; ratios 0.25, 0.75 and 0.9.
@@ -120,20 +132,39 @@ fn place_beside_c() {
     assert!(text.ends_with("| some marks | 3.00 | 8.00 | 0.75 | 1.00 | 3.00 | 50 | 200 | 0.25 |\n"));
 }
 
+/// The same ratios, of the instructions too; without E-ACSL's model its columns are empty.
+#[test]
+fn desk_beside_player() {
+    let mut desk = others().desk;
+    let text = desk.desk_text();
+    assert!(text.contains("| Case | ns desk | ns player | of player | ns shadow | of shadow | instructions desk | instructions player | of player | instructions shadow | of shadow |\n"));
+    assert!(text.ends_with(
+        "| some marks | 3.00 | 8.00 | 0.75 | 1.00 | 3.00 | 50 | 200 | 0.25 | 25 | 2.00 |\n"
+    ));
+    desk.titles.pop();
+    let text = desk.desk_text();
+    assert!(
+        text.ends_with("| some marks | 3.00 | 8.00 | 0.75 | – | – | 50 | 200 | 0.25 | – | – |\n")
+    );
+}
+
 /// Each kind of run leaves what the other writes.
 #[test]
 fn places_in_the_page() {
-    let old = page("old tables", "old forms", "old gaps", "old marks");
+    let old = page();
     let marks = report(true).page(&old, &others());
     assert!(marks.contains("old tables") && !marks.contains("old marks"));
-    assert!(marks.contains("old forms") && marks.contains("old gaps"));
+    let others_old = ["old forms", "old gaps", "old desk"];
+    assert!(others_old.iter().all(|words| marks.contains(words)));
     assert!(marks.contains("- Before: commit 0123456\n\nBoth builds"));
     assert!(marks.ends_with(&format!("| 0.25 |\n{END}\n\nLast.\n")));
     assert!(!marks.contains("an ask"));
     let tables = report(false).page(&old, &others());
     assert!(tables.contains("old marks") && !tables.contains("old tables"));
-    assert!(!tables.contains("old forms") && tables.contains("| some marks | 0.5 × plain |"));
-    assert!(!tables.contains("old gaps") && tables.contains("| some marks | 6 × memset |"));
+    assert!(!others_old.iter().any(|words| tables.contains(words)));
+    assert!(tables.contains("| some marks | 0.5 × plain |"));
+    assert!(tables.contains("| some marks | 6 × memset |"));
+    assert!(tables.contains("### The desk form"));
     assert!(tables.contains("| an ask | 2.00 |"));
     assert!(tables.contains(&format!("{END}\n\nBetween.")));
 }
@@ -141,8 +172,9 @@ fn places_in_the_page() {
 #[test]
 fn page_has_its_places() {
     let page = include_str!("../../../docs/BENCHMARKS.md");
-    for begin in [BEGIN, BEGIN_FORMS, BEGIN_GAPS, BEGIN_MARKS] {
+    let all = [BEGIN, BEGIN_FORMS, BEGIN_GAPS, BEGIN_DESK, BEGIN_MARKS];
+    for begin in all {
         assert_eq!(page.matches(begin).count(), 1, "{begin}");
     }
-    assert_eq!(page.matches(END).count(), 4);
+    assert_eq!(page.matches(END).count(), all.len());
 }

@@ -10,6 +10,7 @@ use lib.Seq.{take-all, take-at, length-take-le}
 use borrow.Author.Tests.{leb-true, leb-false, ltb-false}
 use Rattle.number.proofs.TestLaws.{Test, is-true, is-false, test, or-false}
 use Rattle.map.specs.declared.Map.{Map}
+use Rattle.map.specs.FormMap.{player}
 use Rattle.plain.specs.Call.{Call, Answer, done, clear}
 use Rattle.plain.specs.ShadowCalls.{shadowStep}
 use Rattle.shadows.specs.Shadows.{zeroShadows, lengthsFit}
@@ -50,8 +51,8 @@ part-back xs last size n e l = go (test (leb size (length xs)))
 pub on-parts : (m : Map) (c : Call) (r : Answer) (h p s h′ p′ s′ : List ℕ) (i j k : ℕ)
     → i ≡ min (m .«heap_size») (length h) → j ≡ min (m .«stack_size») (length p) → k ≡ min (m .«stack_size») (length s)
     → length h′ ≡ length (take i h) → length p′ ≡ length (take j p) → length s′ ≡ length (take k s)
-    → ((h′, (p′, s′)), r) ≡ monitor.call m c (take i h, (take j p, take k s))
-    → (parts m (h′ ++ drop i h) (p′ ++ drop j p) (s′ ++ drop k s), r) ≡ monitor.call m c (parts m h p s)
+    → ((h′, (p′, s′)), r) ≡ monitor.call (player m) c (take i h, (take j p, take k s))
+    → (parts m (h′ ++ drop i h) (p′ ++ drop j p) (s′ ++ drop k s), r) ≡ monitor.call (player m) c (parts m h p s)
 on-parts m c r h p s h′ p′ s′ i j k ei ej ek lh lp ls e =
     rw (part-back h h′ (m .«heap_size») i ei lh, part-back p p′ (m .«stack_size») j ej lp, part-back s s′ (m .«stack_size») k ek ls)
     (e ∙ rw (take-min h (m .«heap_size») i ei, take-min p (m .«stack_size») j ej, take-min s (m .«stack_size») k ek) refl)
@@ -72,9 +73,9 @@ sizes m e = go (test (aboveSizes m))
 
 module _ (m : Map) (h p s : List ℕ) (z : mapNumber m ≡ 0) (lh : 32768 ≤ length h) (lp : 16384 ≤ length p) (ls : 16384 ≤ length s) where
   -- the buffers have shadows of its lengths
-  pub parts-fit : lengthsFit m (parts m h p s) ≡ true
+  pub parts-fit : lengthsFit (player m) (parts m h p s) ≡ true
   parts-fit =
-      true-fit m (parts m h p s) (
+      true-fit (player m) (parts m h p s) (
         length-take-le (m .«heap_size») h (omega (arith, sizes m z .0, lh)),
         (
           length-take-le (m .«stack_size») p (omega (arith, sizes m z .1, lp)),
@@ -83,6 +84,6 @@ module _ (m : Map) (h p s : List ℕ) (z : mapNumber m ≡ 0) (lh : 32768 ≤ le
       )
 
   -- under it clear leaves zeros
-  pub parts-cleared : monitor.call m clear (parts m h p s) ≡ (zeroShadows m, done)
+  pub parts-cleared : monitor.call (player m) clear (parts m h p s) ≡ (zeroShadows (player m), done)
   unfolding shadowStep
-  parts-cleared = call-step m clear (parts m h p s) (accepted-good m z) parts-fit
+  parts-cleared = call-step (player m) clear (parts m h p s) (accepted-good m z) parts-fit

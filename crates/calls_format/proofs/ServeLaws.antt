@@ -8,6 +8,7 @@ use native.Mathlib.Omega.{arith}
 use Rattle.number.specs.Parts.{Each}
 use Rattle.number.proofs.TestLaws.{Test, is-true, is-false, test}
 use Rattle.map.specs.declared.Map.{Map}
+use Rattle.map.specs.FormMap.{player}
 use Rattle.map.specs.Map.{goodMap}
 use Rattle.plain.specs.Areas.{mapRules}
 use Rattle.plain.specs.Rules.{Rules}
@@ -18,18 +19,18 @@ use Rattle.calls_format.specs.Records.{Asked, newMap, call}
 use Rattle.calls_format.specs.Running.{aboveSizes, mapNumber, underMap, serveBy, listed}
 
 -- an accepted map is good
-pub accepted-good : (m : Map) → mapNumber m ≡ 0 → goodMap m ≡ true
-accepted-good m = go (test (goodMap m))
+pub accepted-good : (m : Map) → mapNumber m ≡ 0 → goodMap (player m) ≡ true
+accepted-good m = go (test (goodMap (player m)))
   where
-    go : Test (goodMap m) → mapNumber m ≡ 0 → goodMap m ≡ true
+    go : Test (goodMap (player m)) → mapNumber m ≡ 0 → goodMap (player m) ≡ true
     go (is-true g) e = g
     go (is-false g) e = absurd (omega (arith, rw g at e))
 
 -- the number of a map is none but 0, 1 and 10
 map-low : (m : Map) → mapNumber m ≢ 8
-map-low m = go (test (goodMap m)) (test (aboveSizes m))
+map-low m = go (test (goodMap (player m))) (test (aboveSizes m))
   where
-    go : Test (goodMap m) → Test (aboveSizes m) → mapNumber m ≢ 8
+    go : Test (goodMap (player m)) → Test (aboveSizes m) → mapNumber m ≢ 8
     go (is-false g) a = rw g (omega arith)
     go (is-true g) (is-true a) = rw (g, a) (omega arith)
     go (is-true g) (is-false a) = rw (g, a) (omega arith)
@@ -59,13 +60,13 @@ module _ {C X : Type 0} (cleared : Map → X → X) (callOn : Map → C → X �
 -- a form whose calls on the image of a list do what the list does: `Kept` holds of a map and a list whenever a run has come to them
 pub record Mirrors {C X L : Type 0} (cleared : Map → X → X) (callOn : Map → C → X → X × Answer) (emptied : Map → L → L) (step : Rules → C → L → L × Answer)
     (image : Map → L → X) (Kept : Map → L → Type 0) : Type 0 where
-  pub same : (m : Map) (c : C) (x : L) → Kept m x → goodMap m ≡ true
-      → callOn m c (image m x) ≡ (image m ((step (mapRules m) c x) .0), (step (mapRules m) c x) .1)
-  pub refused : (m : Map) (c : C) (x : L) → goodMap m ≡ false → callOn m c (image m x) ≡ (image m x, refusal 1)
-  pub clears : (m n : Map) (x : L) → goodMap n ≡ true → cleared n (image m x) ≡ image n (emptied n x)
-  pub keeps : (m : Map) (c : C) (x : L) → Kept m x → goodMap m ≡ true → Kept m ((step (mapRules m) c x) .0)
-  pub starts : (m n : Map) (x : L) → Kept m x → goodMap n ≡ true → Kept n (emptied n x)
-  pub low : (m : Map) (c : C) (x : L) → number ((step (mapRules m) c x) .1) ≢ 8
+  pub same : (m : Map) (c : C) (x : L) → Kept m x → goodMap (player m) ≡ true
+      → callOn m c (image m x) ≡ (image m ((step (mapRules (player m)) c x) .0), (step (mapRules (player m)) c x) .1)
+  pub refused : (m : Map) (c : C) (x : L) → goodMap (player m) ≡ false → callOn m c (image m x) ≡ (image m x, refusal 1)
+  pub clears : (m n : Map) (x : L) → goodMap (player n) ≡ true → cleared n (image m x) ≡ image n (emptied n x)
+  pub keeps : (m : Map) (c : C) (x : L) → Kept m x → goodMap (player m) ≡ true → Kept m ((step (mapRules (player m)) c x) .0)
+  pub starts : (m n : Map) (x : L) → Kept m x → goodMap (player n) ≡ true → Kept n (emptied n x)
+  pub low : (m : Map) (c : C) (x : L) → number ((step (mapRules (player m)) c x) .1) ≢ 8
 
 module _ {C X L : Type 0} (cleared : Map → X → X) (callOn : Map → C → X → X × Answer) (emptied : Map → L → L) (step : Rules → C → L → L × Answer)
     (image : Map → L → X) (Kept : Map → L → Type 0) (M : Mirrors cleared callOn emptied step image Kept) where
@@ -87,9 +88,9 @@ module _ {C X L : Type 0} (cleared : Map → X → X) (callOn : Map → C → X 
           ≡ (imageOf ((unless k s ((m, emptied m (s .1)), done)) .0), (unless k s ((m, emptied m (s .1)), done)) .1)
       go zero e = rw (M .clears (s .0) m (s .1) (accepted-good m e))
       go (suc k) e = refl
-  serve-same (call c) s P = go (test (goodMap (s .0)))
+  serve-same (call c) s P = go (test (goodMap (player (s .0))))
     where
-      go : Test (goodMap (s .0)) → on (call c) (imageOf s) ≡ (imageOf ((listOn (call c) s) .0), (listOn (call c) s) .1)
+      go : Test (goodMap (player (s .0))) → on (call c) (imageOf s) ≡ (imageOf ((listOn (call c) s) .0), (listOn (call c) s) .1)
       go (is-true g) = rw (g, M .same (s .0) c (s .1) P g)
       go (is-false g) = rw (g, M .refused (s .0) c (s .1) g)
 
@@ -100,9 +101,9 @@ module _ {C X L : Type 0} (cleared : Map → X → X) (callOn : Map → C → X 
       go : (k : ℕ) → mapNumber m ≡ k → Kept ((unless k s ((m, emptied m (s .1)), done)) .0 .0) ((unless k s ((m, emptied m (s .1)), done)) .0 .1)
       go zero e = M .starts (s .0) m (s .1) P (accepted-good m e)
       go (suc k) e = P
-  serve-keeps (call c) s P = go (test (goodMap (s .0)))
+  serve-keeps (call c) s P = go (test (goodMap (player (s .0))))
     where
-      go : Test (goodMap (s .0)) → Kept ((listOn (call c) s) .0 .0) ((listOn (call c) s) .0 .1)
+      go : Test (goodMap (player (s .0))) → Kept ((listOn (call c) s) .0 .0) ((listOn (call c) s) .0 .1)
       go (is-true g) = rw g (M .keeps (s .0) c (s .1) P g)
       go (is-false g) = rw g P
 
@@ -113,9 +114,9 @@ module _ {C X L : Type 0} (cleared : Map → X → X) (callOn : Map → C → X 
       go : (k : ℕ) → k ≢ 8 → number ((unless k s ((m, emptied m (s .1)), done)) .1) ≢ 8
       go zero n = omega arith
       go (suc k) n = n
-  serve-low (call c) s = go (test (goodMap (s .0)))
+  serve-low (call c) s = go (test (goodMap (player (s .0))))
     where
-      go : Test (goodMap (s .0)) → number ((listOn (call c) s) .1) ≢ 8
+      go : Test (goodMap (player (s .0))) → number ((listOn (call c) s) .1) ≢ 8
       go (is-true g) = rw g (M .low (s .0) c (s .1))
       go (is-false g) = rw g (omega arith)
 

@@ -5,6 +5,7 @@ use mathlib.Core.List.{List, [], _∷_}
 use Prim.Native.Nat.{ℕ}
 use Rattle.number.specs.Parts.{Each}
 use Rattle.map.specs.declared.Map.{Map}
+use Rattle.map.specs.FormMap.{player}
 use Rattle.plain.specs.Call.{refusal, done}
 use Rattle.shadows.specs.Shadows.{zeroShadows}
 use Rattle.calls_format.specs.Records.{newMap}
@@ -60,6 +61,6 @@ bad =
 -- an accepted map clears, a refused one keeps the old one and the shadows: whatever these are
 abbrev pub NewMapSamplesHold : Type 0
 NewMapSamplesHold =
-    Each (λ (m : Map). (s : State) → serve (newMap m) s ≡ ((m, zeroShadows m), done)) taken
+    Each (λ (m : Map). (s : State) → serve (newMap m) s ≡ ((m, zeroShadows (player m)), done)) taken
     × Each (λ (m : Map). (s : State) → serve (newMap m) s ≡ (s, refusal 10)) tooLarge
     × Each (λ (m : Map). (s : State) → serve (newMap m) s ≡ (s, refusal 1)) bad

@@ -8,6 +8,7 @@ use Prim.Native.Nat.{ℕ}
 use lib.Dec.{ltb}
 use Rattle.number.specs.Parts.{Each}
 use Rattle.map.specs.declared.Map.{Map}
+use Rattle.map.specs.FormMap.{player}
 use Rattle.map.specs.Map.{goodMap}
 use Rattle.plain.specs.Block.{Block}
 use Rattle.plain.specs.Areas.{mapRules}
@@ -27,7 +28,7 @@ aboveSizes m = ltb 32768 (m .«heap_size») || ltb 16384 (m .«stack_size»)
 
 -- 1 where a map breaks a rule, 10 where it is good and above the program's sizes
 abbrev pub mapRefusals : Map → List Refusal
-mapRefusals m = (1, not (goodMap m)) ∷ (10, aboveSizes m) ∷ []
+mapRefusals m = (1, not (goodMap (player m))) ∷ (10, aboveSizes m) ∷ []
 
 -- the number that a new map is answered with, 0 where it is accepted
 abbrev pub mapNumber : Map → ℕ
@@ -50,7 +51,7 @@ serveBy cleared callOn (call c) s = underMap (s .0) (callOn (s .0) c (s .1))
 
 -- a call on a plain list, of whatever form: refused by 1 under a map that breaks a rule
 abbrev pub listed : {C L : Type 0} (step : Rules → C → L → L × Answer) → Map → C → L → L × Answer
-listed step m c x = cond (goodMap m) (step (mapRules m) c x) (x, refusal 1)
+listed step m c x = cond (goodMap (player m)) (step (mapRules (player m)) c x) (x, refusal 1)
 
 -- ---- the run on shadows
 
@@ -63,7 +64,7 @@ firstState = (zeroMap, ([], ([], [])))
 
 -- an accepted map clears
 unfoldable pub serve : Request → State → State × Answer
-serve r s = serveBy (λ m x. zeroShadows m) monitor.call r s
+serve r s = serveBy (λ m x. zeroShadows (player m)) (λ m. monitor.call (player m)) r s
 
 -- ---- the same run on the plain list
 
@@ -80,7 +81,7 @@ servePlain r s = serveBy (λ m x. []) (listed plainStep) r s
 
 -- the map, and the image of the list
 abbrev pub imageOf : PlainState → State
-imageOf s = (s .0, image (s .0) (s .1))
+imageOf s = (s .0, image (player (s .0)) (s .1))
 
 -- ---- what is proved (proofs/RunningLaws.antt)
 

@@ -8,6 +8,7 @@ use lib.ListN.{length, take, drop}
 use lib.Seq.{length-take-le}
 use borrow.Author.Tests.{eq-eqb}
 use Rattle.map.specs.declared.Map.{Map}
+use Rattle.map.specs.FormMap.{player}
 use Rattle.plain.specs.Call.{Answer, clear, done}
 use Rattle.origins_list.specs.Call.{Call, plain}
 use Rattle.shadows.specs.Shadows.{zeroShadows}
@@ -53,7 +54,7 @@ module _ (m : Map) (h p s x y : List ℕ) (i j k u v : ℕ)
 
 -- zeros, and a counter
 abbrev after : Map → (counter : ℕ) → form.State × Answer
-after m n = (record { shadows = zeroShadows m; cells = noCells m; counter = n }, done)
+after m n = (record { shadows = zeroShadows (player m); cells = noCells m; counter = n }, done)
 
 -- under an accepted map clear leaves zeros, and the counter
 module _ (m : Map) (h p s x y : List ℕ) (z : mapNumber m ≡ 0) (lh : 32768 ≤ length h) (lp : 16384 ≤ length p) (ls : 16384 ≤ length s)

@@ -5,6 +5,7 @@ use Prim.Native.Nat.{_≤_}
 use native.Mathlib.Omega.{arith}
 use Rattle.number.specs.Parts.{tab}
 use Rattle.map.specs.declared.Map.{Map}
+use Rattle.map.specs.FormMap.{player}
 use Rattle.map.specs.Map.{goodMap}
 use Rattle.plain.specs.Areas.{mapRules}
 use Rattle.plain.specs.Run.{run}
@@ -28,7 +29,7 @@ first-image = refl
 
 -- the counter is where origins run, and where the map is good the list carries what it should
 abbrev Kept : Map → OriginList → Type 0
-Kept m x = ((1 ≤ x .counter) × (x .counter ≤ 4294967296)) × (goodMap m ≡ true → Carries (mapRules m) x)
+Kept m x = ((1 ≤ x .counter) × (x .counter ≤ 4294967296)) × (goodMap (player m) ≡ true → Carries (mapRules (player m)) x)
 
 first-kept : Kept zeroMap firstList
 first-kept = ((omega arith, omega arith), λ g. stays-carried zeroMap g .0 1 (omega arith) (omega arith))
@@ -41,7 +42,7 @@ mirrors =
       clears = λ m n x g. sym (demand.first-image n g (x .counter));
       keeps = λ m c x P g. let C = stays-carried m g .1 x (P .1 g) c in (C .last, λ _. C);
       starts = λ m n x P g. (P .0, λ _. stays-carried n g .0 (x .counter) (P .0 .0) (P .0 .1));
-      low = λ m c x. no-8 (mapRules m) c x;
+      low = λ m c x. no-8 (mapRules (player m)) c x;
     }
 
 pub same-run : SameRun

@@ -4,6 +4,7 @@ use mathlib.Core.List.{List, []}
 use mathlib.Core.Logic.{_≢_}
 use Rattle.number.specs.Parts.{Each}
 use Rattle.map.specs.declared.Map.{Map}
+use Rattle.map.specs.FormMap.{player}
 use Rattle.plain.specs.Call.{Answer, number}
 use Rattle.plain.specs.Run.{run}
 use Rattle.shadows.specs.Shadows.{zeroShadows}
@@ -25,7 +26,7 @@ firstState = (zeroMap, record { shadows = ([], ([], [])); cells = ([], []); coun
 
 -- an accepted map clears shadows and cells, and leaves the counter
 abbrev pub cleared : Map → form.State → form.State
-cleared m x = record { shadows = zeroShadows m; cells = noCells m; counter = x .counter }
+cleared m x = record { shadows = zeroShadows (player m); cells = noCells m; counter = x .counter }
 
 unfoldable pub serve : Request → State → State × Answer
 serve r s = serveBy cleared form.call r s

@@ -5,6 +5,7 @@ use mathlib.Core.Option.{Option, none, some}
 use Prim.Native.Nat.{ℕ}
 use Rattle.number.specs.Parts.{Each}
 use Rattle.map.specs.declared.Map.{Map}
+use Rattle.map.specs.FormMap.{player}
 use Rattle.plain.specs.Call.{record-literal, valid-read, remove, done, refusal}
 use Rattle.shadows.specs.Shadows.{zeroShadows}
 use Rattle.origins_list.specs.Call.{plain, point, copy, live}
@@ -65,6 +66,6 @@ RecordSamplesHold =
 -- an accepted map clears shadows and cells and leaves the counter, a refused one keeps all: whatever these are
 abbrev pub NewMapSamplesHold : Type 0
 NewMapSamplesHold =
-    Each (λ (m : Map). (s : State) → serve (newMap m) s ≡ ((m, record { shadows = zeroShadows m; cells = noCells m; counter = s .1 .counter }), done)) taken
+    Each (λ (m : Map). (s : State) → serve (newMap m) s ≡ ((m, record { shadows = zeroShadows (player m); cells = noCells m; counter = s .1 .counter }), done)) taken
     × Each (λ (m : Map). (s : State) → serve (newMap m) s ≡ (s, refusal 10)) tooLarge
     × Each (λ (m : Map). (s : State) → serve (newMap m) s ≡ (s, refusal 1)) bad

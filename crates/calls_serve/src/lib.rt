@@ -2,6 +2,7 @@
 ghost use mathlib.Core.Path.{_≡_};
 ghost use Prim.Native.Nat.{_≤_};
 ghost use lib.ListN.{length};
+ghost use Rattle.map.specs.FormMap.{player};
 ghost use Rattle.monitor_base.specs.Answers.{callOf};
 ghost use Rattle.monitor_base.specs.Calls as monitor_calls;
 ghost use Rattle.calls_format.specs.Decoded.{requested};
@@ -12,6 +13,7 @@ use calls_format::Served;
 use calls_plan::Plan;
 use calls_plan::plan_of;
 use calls_plan::sizes_of;
+use map::Form;
 use map::Map;
 use monitor::Answer;
 use monitor::Call;
@@ -26,7 +28,7 @@ fn call_on(
     secondary: &mut [u8],
 ) -> Answer
     ensures { λ r. ⌜ left map r (now (heap .exit)) (now (primary .exit)) (now (secondary .exit))
-        ≡ monitor_calls.call map (callOf call) (parts map (now (heap .entry)) (now (primary .entry)) (now (secondary .entry))) ⌝ }
+        ≡ monitor_calls.call (player map) (callOf call) (parts map (now (heap .entry)) (now (primary .entry)) (now (secondary .entry))) ⌝ }
 {
     let sizes = sizes_of(map, heap.len(), primary.len(), secondary.len());
     let h = sizes.heap;
@@ -34,6 +36,7 @@ fn call_on(
     let s = sizes.secondary;
     monitor::call_step(
         call,
+        Form::Player,
         map,
         &mut heap[0..h],
         &mut primary[0..p],

@@ -7,6 +7,7 @@ use Prim.Native.Nat.{ℕ, _+_, _-_, _%_, _≤_, _<_}
 use native.Mathlib.Omega.{arith}
 use Rattle.number.proofs.TestLaws.{Test, is-true, is-false, test, cond-true}
 use Rattle.map.specs.declared.Map.{Map}
+use Rattle.map.specs.FormMap.{player}
 use Rattle.map.specs.Map.{goodMap, within}
 use Rattle.map.proofs.MapLaws.{Good, good-true, within-true}
 use Rattle.plain.specs.Areas.{mapRules}
@@ -20,7 +21,7 @@ use Rattle.cells_layout.proofs.AreaLaws.{placeOf, halfOf, putIf, area-c
 both : {x x′ y y′ : List ℕ} → x ≡ x′ → y ≡ y′ → _≡_ {A = Cells} (x, y) (x′, y′)
 both e d = rw (e, d)
 
-module _ (m : Map) (G : Good m) where
+module _ (m : Map) (G : Good (player m)) where
   abbrev hs : ℕ
   hs = m .«heap_start»
 
@@ -34,10 +35,10 @@ module _ (m : Map) (G : Good m) where
   sz = m .«stack_size»
 
   hs4 : hs % 4 ≡ 0
-  hs4 = omega (arith, G .heapStart8)
+  hs4 = omega (arith, G .heapStartWhole)
 
   hz4 : hz % 4 ≡ 0
-  hz4 = omega (arith, G .heapSize8)
+  hz4 = omega (arith, G .heapSizeWhole)
 
   ss4 : ss % 4 ≡ 0
   ss4 = omega (arith, G .stackStart8)
@@ -46,10 +47,10 @@ module _ (m : Map) (G : Good m) where
   sz4 = omega (arith, G .stackSize8)
 
   -- an address of the map that is not the heap's
-  in-stack : (a : ℕ) → mapRules m .inside a ≡ true → within hs hz a ≡ false → (ss ≤ a) × (a < ss + sz)
+  in-stack : (a : ℕ) → mapRules (player m) .inside a ≡ true → within hs hz a ≡ false → (ss ≤ a) × (a < ss + sz)
   in-stack a i t = within-true ss sz a (rw t at i)
 
-  reads : (o : Bool) (f g : Held) → Small (halfOf o f g) → (a : ℕ) → mapRules m .inside a ≡ true
+  reads : (o : Bool) (f g : Held) → Small (halfOf o f g) → (a : ℕ) → mapRules (player m) .inside a ≡ true
       → readOne (within hs hz a) (λ h. halfAt h (placeOf o (a - hs))) (λ h. halfAt h (placeOf o (a - ss))) (cellImage m f g) ≡ halfOf o f g (cellOf a)
   reads o f g small a i = go (test (within hs hz a))
     where
@@ -59,7 +60,7 @@ module _ (m : Map) (G : Good m) where
       go (is-true t) = let k = within-true hs hz a t in rw t (area-half hs hz hs4 hz4 o f g small a (k .0) (k .1))
       go (is-false t) = let k = in-stack a i t in rw t (area-half ss sz ss4 sz4 o f g small a (k .0) (k .1))
 
-  puts : (o : Bool) (f g : Held) (a v : ℕ) → mapRules m .inside a ≡ true
+  puts : (o : Bool) (f g : Held) (a v : ℕ) → mapRules (player m) .inside a ≡ true
       → writeOne (within hs hz a) (λ h. setHalf h (placeOf o (a - hs)) v) (λ h. setHalf h (placeOf o (a - ss)) v) (cellImage m f g)
       ≡ cellImage m (putIf o (cellOf a) v f) (putIf (not o) (cellOf a) v g)
   puts o f g a v i = go (test (within hs hz a))
@@ -78,11 +79,11 @@ module _ (m : Map) (G : Good m) where
           (both (other-put hs hz hs4 hz4 o (not o) f g a v (λ x y. G .noShare (omega arith) (omega arith)))
           (area-put ss sz ss4 sz4 o f g a v (k .0)))
 
-  zeroes : (f g : Held) (b l : ℕ) → 1 ≤ l → mapRules m .fits b l ≡ true
+  zeroes : (f g : Held) (b l : ℕ) → 1 ≤ l → mapRules (player m) .fits b l ≡ true
       → writeOne (within hs hz b) (λ h. zeroCells h (b - hs) l) (λ h. zeroCells h (b - ss) l) (cellImage m f g) ≡ cellImage m (cut b l f) (cut b l g)
   zeroes f g b l n fit = go (test (within hs hz b)) fit
     where
-      go : Test (within hs hz b) → mapRules m .fits b l ≡ true
+      go : Test (within hs hz b) → mapRules (player m) .fits b l ≡ true
           → writeOne (within hs hz b) (λ h. zeroCells h (b - hs) l) (λ h. zeroCells h (b - ss) l) (cellImage m f g)
           ≡ cellImage m (cut b l f) (cut b l g)
       go (is-true t) e =
@@ -96,9 +97,9 @@ module _ (m : Map) (G : Good m) where
           (both (other-zeroed hs hz hs4 hz4 f g b l (λ x y. G .noShare (omega arith) (omega arith)))
           (area-zeroed ss sz ss4 sz4 f g b l (omega arith) n))
 
-pub cell-images : (m : Map) → goodMap m ≡ true → CellImages (mapRules m .inside) (mapRules m .fits) (cellOps m) (cellImage m)
+pub cell-images : (m : Map) → goodMap (player m) ≡ true → CellImages (mapRules (player m) .inside) (mapRules (player m) .fits) (cellOps m) (cellImage m)
 cell-images m e =
-    let G = good-true m e in
+    let G = good-true (player m) e in
     record {
       image-same = λ f g f′ g′ hf hg.
           both (area-same _ _ (hs4 m G) (hz4 m G) f g f′ g′ (λ c x y. hf c) (λ c x y. hg c))

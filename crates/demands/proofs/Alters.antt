@@ -9,9 +9,9 @@ use borrow.Author.Tests.{not-false, eqb-false}
 use Rattle.number.specs.Parts.{at, tab}
 use Rattle.number.proofs.TestLaws.{Test, is-true, is-false, test, cond-true}
 use Rattle.number.proofs.PartLaws.{length-over, at-tab-out}
-use Rattle.map.specs.declared.Map.{Map}
+use Rattle.map.specs.FormMap.{FormMap}
 use Rattle.map.specs.Map.{goodMap}
-use Rattle.map.proofs.MapLaws.{Good, good-true, within-true, true-within}
+use Rattle.map.proofs.MapLaws.{Good, good-true, within-true, true-within, number-holds}
 use Rattle.plain.specs.declared.Beginning.{Beginning}
 use Rattle.plain.specs.Block.{Block, len, startsWritten, begun}
 use Rattle.plain.specs.Rules.{Placed}
@@ -50,19 +50,19 @@ use Rattle.demands.proofs.MarkLaws.{range-rest, range-out, range-in}
 
 -- ---- free
 
-erased : (m : Map) (s : Shadows) (x l : ℕ) (q : Place) → byteAt (shadowOps m .erase s x l) q ≡ cond (inPlace m x l q) 0 (byteAt s q)
+erased : (m : FormMap) (s : Shadows) (x l : ℕ) (q : Place) → byteAt (shadowOps m .erase s x l) q ≡ cond (inPlace m x l q) 0 (byteAt s q)
 unfolding heapErase placeLength stackErase
 erased m s x l q = go q (test (inHeap m x))
   where
     go : (q : Place) → Test (inHeap m x) → byteAt (shadowOps m .erase s x l) q ≡ cond (inPlace m x l q) 0 (byteAt s q)
-    go (heap q) (is-true t) = rw t (at-written (x - m .«heap_start» - 8) (8 + segments 8 l * 8) (λ i. 0) (s .0) (λ i k r. refl) q)
+    go (heap q) (is-true t) = rw t (at-written (x - m .«heap_start» - m .segment) (m .segment + segments (m .segment) l * m .segment) (λ i. 0) (s .0) (λ i k r. refl) q)
     go (heap q) (is-false t) = rw t
     go (primary q) (is-true t) = rw t
     go (primary q) (is-false t) = rw t (at-written (x - m .«stack_start») l (λ i. 0) (s .1 .0) (λ i k r. refl) q)
     go (secondary q) (is-true t) = rw t
     go (secondary q) (is-false t) = rw t (at-written (x - m .«stack_start») l (λ i. 0) (s .1 .1) (λ i k r. refl) q)
 
-pub free-zeroes : FreeZeroes
+pub free-zeroes : (m : FormMap) → FreeZeroes m
 unfolding call
 free-zeroes m x s e q =
     let z : firstOf (refusals m (free (suc x)) s) ≡ 0 = sym (number-first m (free (suc x)) s) ∙ e in
@@ -70,7 +70,7 @@ free-zeroes m x s e q =
 
 -- ---- record
 
-module _ (m : Map) (w : Beginning) (b l : ℕ) (s : Shadows) (ok : goodMap m ≡ true) (f : Fit m s) (t : Stands (mapRules m) (begun w b l)) where
+module _ (m : FormMap) (w : Beginning) (b l : ℕ) (s : Shadows) (ok : goodMap m ≡ true) (f : Fit m s) (t : Stands (mapRules m) (begun w b l)) where
   abbrev heapBlocks : List Block
   heapBlocks = down (m .«heap_start») (begun w b l) ∷ []
 
@@ -80,13 +80,13 @@ module _ (m : Map) (w : Beginning) (b l : ℕ) (s : Shadows) (ok : goodMap m ≡
   g : Good m
   g = good-true m ok
 
-  sizes : Sizes 4 8 (m .«heap_size»)
-  sizes = record { wide = omega arith; two = omega arith; small = omega (arith, g .heapMost); whole = g .heapSize8 }
+  sizes : Sizes (m .width) (m .segment) (m .«heap_size»)
+  sizes = record { wide = m .wide; two = m .two; small = number-holds m (m .«heap_size») (g .heapMost); whole = g .heapSizeWhole }
 
-  heap-placed : inHeap m b ≡ true → Placed (heapRules 8 0 (m .«heap_size»)) 0 heapBlocks
+  pub heap-placed : inHeap m b ≡ true → Placed (heapRules (m .segment) 0 (m .«heap_size»)) 0 heapBlocks
   heap-placed h =
-      let H = heap-shifted 8 (m .«heap_start») (m .«heap_size») (g .heapStart8) in
-      let u : heapRules 8 (m .«heap_start») (m .«heap_size») .fits b (len (begun w b l)) ≡ true =
+      let H = heap-shifted (m .segment) (m .«heap_start») (m .«heap_size») (g .heapStartWhole) in
+      let u : heapRules (m .segment) (m .«heap_start») (m .«heap_size») .fits b (len (begun w b l)) ≡ true =
       sym (cond-true (inHeap m b) _ (stackRules (m .«stack_start») (m .«stack_size») .fits b (len (begun w b l))) h) ∙ t .fits in
       record {
         some = t .some;
@@ -97,13 +97,13 @@ module _ (m : Map) (w : Beginning) (b l : ℕ) (s : Shadows) (ok : goodMap m ≡
         later = tt;
       }
 
-  heap-byte : inHeap m b ≡ true → (q : ℕ) → at (heapImage 4 8 (m .«heap_size») heapBlocks) q ≡ heapByte 4 8 heapBlocks q
+  heap-byte : inHeap m b ≡ true → (q : ℕ) → at (heapImage (m .width) (m .segment) (m .«heap_size») heapBlocks) q ≡ heapByte (m .width) (m .segment) heapBlocks q
   heap-byte h q = ap (λ (x : ℕ → ℕ). x q) (heap.at-image sizes heapBlocks (heap-placed h))
 
-  heap-past : inHeap m b ≡ true → (q : ℕ) → length (s .0) ≤ q → heapByte 4 8 heapBlocks q ≡ 0
+  heap-past : inHeap m b ≡ true → (q : ℕ) → length (s .0) ≤ q → heapByte (m .width) (m .segment) heapBlocks q ≡ 0
   heap-past h q k =
       sym (heap-byte h q)
-      ∙ List·getD-eq-default (heapImage 4 8 (m .«heap_size») heapBlocks) 0 {n = q} (omega (arith, heap.length-image sizes heapBlocks, f .0))
+      ∙ List·getD-eq-default (heapImage (m .width) (m .segment) (m .«heap_size») heapBlocks) 0 {n = q} (omega (arith, heap.length-image sizes heapBlocks, f .0))
 
   stack-inside : inHeap m b ≡ false → inStack m b ≡ true
   stack-inside h = rw h at (base-inside (mapRules m) (map-sound m ok) b (len (begun w b l)) (t .some) (t .fits))
@@ -130,7 +130,7 @@ module _ (m : Map) (w : Beginning) (b l : ℕ) (s : Shadows) (ok : goodMap m ≡
       go : (q : Place) → Test (inHeap m b)
           → byteAt (shadowOps m .stamp s (begun w b l)) q ≡ cond (inPlace m b l q) (byteAt (image m (begun w b l ∷ [])) q) (byteAt s q)
       go (heap q) (is-true h) =
-          rw (h, heap-byte h q, ln) (at-written (b - m .«heap_start» - 8) (8 + segments 8 l * 8) (heapByte 4 8 heapBlocks) (s .0) (λ i k r. heap-past h i k) q)
+          rw (h, heap-byte h q, ln) (at-written (b - m .«heap_start» - m .segment) (m .segment + segments (m .segment) l * m .segment) (heapByte (m .width) (m .segment) heapBlocks) (s .0) (λ i k r. heap-past h i k) q)
       go (heap q) (is-false h) = rw h
       go (primary q) (is-true h) = rw h
       go (primary q) (is-false h) =
@@ -141,14 +141,14 @@ module _ (m : Map) (w : Beginning) (b l : ℕ) (s : Shadows) (ok : goodMap m ≡
           rw (h, stack-inside h, stack-byte h secondaryOwn q, ln)
           (at-written (b - m .«stack_start») l (secondaryByte stackBlocks) (s .1 .1) (λ i k r. stack-past h secondaryOwn i (omega (arith, f .1 .1))) q)
 
-pub record-stamps : RecordStamps
+pub record-stamps : (m : FormMap) → RecordStamps m
 record-stamps m w b l s e q =
     let A = begun.accepted m w b l s e in
     rw (begun.began m w b l s e) (stamped m w b l s (A .good) (A .fit) (begun.stands m w b l s e) q)
 
 -- ---- written
 
-module _ (m : Map) (a n : ℕ) (s : Shadows) (e : numberOf m (written a n) s ≡ 0) where
+module _ (m : FormMap) (a n : ℕ) (s : Shadows) (e : numberOf m (written a n) s ≡ 0) where
   -- what an accepted call says of map, lengths, address and range
   record Accepted : Type 0 where
     good : goodMap m ≡ true
@@ -180,8 +180,8 @@ module _ (m : Map) (a n : ℕ) (s : Shadows) (e : numberOf m (written a n) s ≡
       go : Test (inHeap m a) → Test (inStack m a) → mapRules m .inside y ≡ true
       go (is-true h) k =
           let u = within-true (m .«heap_start») (m .«heap_size») a h in
-          let r = heap-room (m .«heap_size») (at (s .0)) (a - m .«heap_start») n
-          (up (m .«heap_start») (heapReading 4 8 (m .«heap_size») (at (s .0)) (a - m .«heap_start»)) (rw h at (accepted .whole))) in
+          let r = heap-room (m .width) (m .segment) (m .«heap_size») (at (s .0)) (a - m .«heap_start») n
+          (up (m .«heap_start») (heapReading (m .width) (m .segment) (m .«heap_size») (at (s .0)) (a - m .«heap_start»)) (rw h at (accepted .whole))) in
           rw (true-within (m .«heap_start») (m .«heap_size») y (omega arith) (omega arith))
       go (is-false h) (is-true k) =
           let u = within-true (m .«stack_start») (m .«stack_size») a k in
@@ -197,7 +197,7 @@ module _ (m : Map) (a n : ℕ) (s : Shadows) (e : numberOf m (written a n) s ≡
   inside-of : (x : ℕ) → outside m x ≡ false → mapRules m .inside x ≡ true
   inside-of x o = not-false (mapRules m .inside x) (outside-words m x ∙ o)
 
-pub written-marks : WrittenMarks
+pub written-marks : (m : FormMap) → WrittenMarks m
 written-marks m a n s e =
     let A = accepted m a n s e in
     let r = range-rest m n a s in
@@ -215,7 +215,7 @@ written-marks m a n s e =
 abbrev AsLong : Shadows → Shadows → Type 0
 AsLong s t = (length (t .0) ≡ length (s .0)) × (length (t .1 .0) ≡ length (s .1 .0)) × (length (t .1 .1) ≡ length (s .1 .1))
 
-module _ (m : Map) where
+module _ (m : FormMap) where
   stamp-long : (s : Shadows) (b : Block) → AsLong s (shadowOps m .stamp s b)
   unfolding heapStamp stackStamp
   stamp-long s b = go (test (inHeap m (b .base)))
@@ -263,7 +263,7 @@ module _ (m : Map) where
   after-long audit s f = (refl, refl, refl)
   after-long (place l k) s f = (refl, refl, refl)
 
-pub lengths-kept : LengthsKept
+pub lengths-kept : (m : FormMap) → LengthsKept m
 unfolding call
 lengths-kept m c s = go (firstOf (refusals m c s)) refl
   where

@@ -8,7 +8,7 @@ use lib.ListN.{length-replicate}
 use borrow.Author.Tests.{not-false, eqb-false, ne-eqb}
 use Rattle.number.specs.Bits.{bit}
 use Rattle.number.proofs.TestLaws.{and-true}
-use Rattle.map.specs.declared.Map.{Map}
+use Rattle.map.specs.FormMap.{FormMap}
 use Rattle.map.specs.Map.{goodMap}
 use Rattle.plain.specs.declared.Beginning.{Beginning}
 use Rattle.plain.specs.declared.Beginning.the-variants.{Unwritten, Written, Literal}
@@ -34,7 +34,7 @@ use Rattle.demands.specs.Begun.{AnswersOfRecord, RecordThenWritten, List
 use Rattle.demands.proofs.Numbers.{number-first, misplaced-words, unaligned-words}
 use Rattle.demands.proofs.Demand1.{accepted-exactly}
 
-pub answers-of-record : AnswersOfRecord
+pub answers-of-record : (m : FormMap) → AnswersOfRecord m
 unfolding call
 answers-of-record m b l s = go (firstOf (refusals m (record-block b l) s)) _ _
   where
@@ -43,7 +43,7 @@ answers-of-record m b l s = go (firstOf (refusals m (record-block b l) s)) _ _
     go zero t u = refl
     go (suc k) t u = refl
 
-module _ (m : Map) (h : Beginning) (b l : ℕ) (s : Shadows) (e : number ((call m (begin h b l) s) .1) ≡ 0) where
+module _ (m : FormMap) (h : Beginning) (b l : ℕ) (s : Shadows) (e : number ((call m (begin h b l) s) .1) ≡ 0) where
   -- what an accepted recording says of map, lengths and block
   pub record Accepted : Type 0 where
     pub good : goodMap m ≡ true
@@ -90,7 +90,7 @@ undamaged l nothing i = refl
 undamaged l (block x y o w t) i = refl
 undamaged l damaged i = sym i
 
-module _ (m : Map) (b l : ℕ) (s : Shadows) (e : number ((call m (record-block b l) s) .1) ≡ 0) where
+module _ (m : FormMap) (b l : ℕ) (s : Shadows) (e : number ((call m (record-block b l) s) .1) ≡ 0) where
   e′ : number ((call m (record-written b l) s) .1) ≡ 0
   e′ = number-first m (record-written b l) s ∙ sym (number-first m (record-block b l) s) ∙ e
 
@@ -123,10 +123,10 @@ module _ (m : Map) (b l : ℕ) (s : Shadows) (e : number ((call m (record-block 
         begin-marked (mapRules m) (shadowOps m) (Fit m) (shadow-stamped m ok) s (A .fit) Unwritten refl b l (stands m Unwritten b l s e),
       )
 
-pub record-then-written : RecordThenWritten
+pub record-then-written : (m : FormMap) → RecordThenWritten m
 record-then-written m b l s e = written-after m b l s e
 
-joined : (m : Map) (bs : List Block) (b l : ℕ) → number ((plainStep (mapRules m) (record-block b l) bs) .1) ≡ 0
+joined : (m : FormMap) (bs : List Block) (b l : ℕ) → number ((plainStep (mapRules m) (record-block b l) bs) .1) ≡ 0
     → (plainStep (mapRules m) (record-written b l) bs) .0 ≡ insert (begun Written b l) bs
 unfolding plainStep
 joined m bs b l e =
@@ -134,10 +134,10 @@ joined m bs b l e =
     sym (list.number-first (mapRules m) (record-block b l) bs) ∙ e in
     rw z
 
-pub list-then-written : ListThenWritten
+pub list-then-written : (m : FormMap) → ListThenWritten m
 list-then-written m ok bs P b l e = begin-written (mapRules m) (map-sound m ok) Unwritten refl b l bs P e ∙ rw (joined m bs b l e)
 
-pub list-starts : ListStarts
+pub list-starts : (m : FormMap) → ListStarts m
 list-starts m ok bs P b l x p q = (λ e. starts Unwritten e, λ e. starts Written e, λ e. starts Literal e)
   where
     starts : (h : Beginning) → Starts m bs (begin h b l) b l x (bit (startsWritten h)) (bit (not (startsLiteral h)))

@@ -9,6 +9,7 @@ use borrow.Author.Tests.{le-leb, eq-eqb, not-true, not-false}
 use Rattle.number.specs.Bits.{bit}
 use Rattle.number.proofs.TestLaws.{Test, is-true, is-false, test}
 use Rattle.map.specs.declared.Map.{Map}
+use Rattle.map.specs.FormMap.{FormMap, player, desk}
 use Rattle.map.specs.Map.{goodMap}
 use Rattle.map.proofs.MapLaws.{good-true, within-true}
 use Rattle.plain.specs.Areas.{mapRules}
@@ -28,19 +29,19 @@ use Rattle.plain.proofs.ReadBackLaws.{image-reads, collect-lookup}
 use Rattle.plain.proofs.ImageLaws as laws
 use Rattle.shadows.specs.Shadows.{Shadows, lengthsFit, shadowOps, image}
 use Rattle.shadows.proofs.ShadowLaws.{Fit, fit-true, image-fits, map-sound, shadow-images, shadow-scanned}
-use Rattle.shadows.proofs.LookLaws.{looks-at-nine, reads-same, looks-at-same}
+use Rattle.shadows.proofs.LookLaws.{looks-at-few, reads-same, looks-at-same}
 use Rattle.shadows.proofs.ByteLaws.{image-bytes}
 use Rattle.monitor_base.specs.Calls.{refusals, call}
 use Rattle.monitor_base.proofs.CallLaws.{call-step}
 use Rattle.demands.specs.Addresses.{inHeap, inStack, outside, endOfAreas, readingAt}
-use Rattle.demands.specs.Demand2.{asked, blockTold, toldAt, listTold, totalsOf, AskReads, NineBytes, ImageShape, OneImage, AuditAccepts, AuditOnly, AuditRefuses, ReadBack, MadeOf}
+use Rattle.demands.specs.Demand2.{asked, blockTold, toldAt, listTold, totalsOf, AskReads, FewBytes, NineBytes, SeventeenBytes, ImageShape, OneImage, AuditAccepts, AuditOnly, AuditRefuses, ReadBack, MadeOf}
 use Rattle.demands.proofs.Demand1.{accepted-exactly}
 use Rattle.demands.proofs.Demand3.{on-every-image}
 use Rattle.demands.proofs.Numbers.{outside-words, reading-words}
 
 -- ---- readings
 
-pub ask-reads : AskReads
+pub ask-reads : (m : FormMap) → AskReads m
 unfolding shadowStep
 ask-reads m s ok fit a = call-step m (ask a) s ok fit ∙ rw (outside-words m a, reading-words m s a) (go (outside m a) (readingAt m s a))
   where
@@ -51,10 +52,10 @@ ask-reads m s ok fit a = call-step m (ask a) s ok fit ∙ rw (outside-words m a,
     go false (block b l o w t) = refl
     go false damaged = refl
 
-pub nine-bytes : NineBytes
+pub few-bytes : (m : FormMap) → FewBytes m
 unfolding call
-nine-bytes m s a =
-    (looks-at-nine m s a, λ t e. (read t (reads-same m s a t e), looks-at-same m s a t e, λ f. answers t (reads-same m s a t e) f))
+few-bytes m s a =
+    (looks-at-few m s a, λ t e. (read t (reads-same m s a t e), looks-at-same m s a t e, λ f. answers t (reads-same m s a t e) f))
   where
     -- the number and what is answered decide, whatever the shadows
     same : (k : ℕ) (t u : Shadows) (r : Answer) → (unless k t (t, r)) .1 ≡ (unless k u (u, r)) .1
@@ -68,18 +69,24 @@ nine-bytes m s a =
         → (call m (ask a) t) .1 ≡ (call m (ask a) s) .1
     answers t e f = rw (e, f) (same (firstOf (refusals m (ask a) s)) t s (askAnswer (readAny (mapRules m) (shadowOps m) s a)))
 
+pub nine-bytes : (m : Map) → NineBytes m
+nine-bytes m = few-bytes (player m)
+
+pub seventeen-bytes : (m : Map) → SeventeenBytes m
+seventeen-bytes m = few-bytes (desk m)
+
 -- ---- images
 
-pub image-shape : ImageShape
+pub image-shape : (m : FormMap) → ImageShape m
 image-shape m bs = let b = image-bytes m bs in (image-fits m bs, b .0, b .1, b .2)
 
-pub one-image : OneImage
+pub one-image : (m : FormMap) → OneImage m
 one-image m ok bs cs P Q e = laws.one-image (mapRules m) (map-sound m ok) (shadowOps m) (image m) (shadow-images m ok) bs cs P Q e
 
 -- ---- audit
 
 -- a block that is not the heap's is the stack's
-module _ (m : Map) (ok : goodMap m ≡ true) where
+module _ (m : FormMap) (ok : goodMap m ≡ true) where
   pub not-both-areas : (a : ℕ) → inHeap m a ≡ true → inStack m a ≡ true → ⊥
   not-both-areas a h k =
       let x = within-true (m .«heap_start») (m .«heap_size») a h in
@@ -105,12 +112,12 @@ module _ (m : Map) (ok : goodMap m ≡ true) where
       let i = base-inside (mapRules m) (map-sound m ok) (b .base) (len b) (P .some) (P .fits) in
       rw (other (inHeap m (b .base)) (inStack m (b .base)) i (not-both-areas (b .base)), stack-count bs (mapRules m .high (b .base) (len b)) (P .later))
 
-pub audit-accepts : AuditAccepts
+pub audit-accepts : (m : FormMap) → AuditAccepts m
 unfolding plainStep
 audit-accepts m ok bs P = on-every-image m ok bs P audit ∙ rw (heap-count m ok bs, stack-count m ok bs 0 P)
 
 -- what an accepted audit found
-accepted-tally : (m : Map) (s : Shadows) → number ((call m audit s) .1) ≡ 0
+accepted-tally : (m : FormMap) (s : Shadows) → number ((call m audit s) .1) ≡ 0
     → (goodMap m ≡ true) × (lengthsFit m s ≡ true) × ((t : Tally) × (shadowOps m .audit s ≡ some t))
 accepted-tally m s e =
     let h = accepted-exactly m audit s .1 e in
@@ -120,18 +127,18 @@ accepted-tally m s e =
     there none q n = absurd (true≢false n)
     there (some t) q n = (t, q)
 
-of-image : (m : Map) → goodMap m ≡ true → (s : Shadows) (bs : List Block) → Placed (mapRules m) 0 bs → s ≡ image m bs
+of-image : (m : FormMap) → goodMap m ≡ true → (s : Shadows) (bs : List Block) → Placed (mapRules m) 0 bs → s ≡ image m bs
     → call m audit s ≡ (s, totalsOf m bs)
 of-image m ok s bs P e = rw e (audit-accepts m ok bs P)
 
-pub audit-only : AuditOnly
+pub audit-only : (m : FormMap) → AuditOnly m
 audit-only m s e =
     let h = accepted-tally m s e in
     let r = laws.audit-image (mapRules m) (map-sound m (h .0)) (shadowOps m) (image m) (shadow-images m (h .0)) (Fit m) (shadow-scanned m (h .0)) s
     (h .2 .0) (fit-true m s (h .1)) (h .2 .1) in
     (h .0, (r .0, r .1, r .2, of-image m (h .0) s (r .0) (r .1) (r .2)))
 
-pub audit-refuses : AuditRefuses
+pub audit-refuses : (m : FormMap) → AuditRefuses m
 unfolding shadowStep
 audit-refuses m s ok fit h = call-step m audit s ok fit ∙ go (shadowOps m .audit s) refl
   where
@@ -143,7 +150,7 @@ audit-refuses m s ok fit h = call-step m audit s ok fit ∙ go (shadowOps m .aud
 -- ---- the list read back
 
 -- the reading of each address of an image is the list's own
-pub image-listed : (m : Map) → goodMap m ≡ true → (bs : List Block) → Placed (mapRules m) 0 bs → (a : ℕ) → readingAt m (image m bs) a ≡ lookup bs a
+pub image-listed : (m : FormMap) → goodMap m ≡ true → (bs : List Block) → Placed (mapRules m) 0 bs → (a : ℕ) → readingAt m (image m bs) a ≡ lookup bs a
 image-listed m ok bs P a =
     sym (reading-words m (image m bs) a) ∙ image-reads (mapRules m) (map-sound m ok) (shadowOps m) (image m) (shadow-images m ok) bs P a
 
@@ -152,13 +159,13 @@ oneTold s r =
     (unless (cond (isDamaged r || isDamaged r) 8 0) s (s, yesNo (inOne 1 r && sameBlock r r && not (isLiteral r)))) .1
 
 -- what valid answers for one byte, by its reading
-valid-one : (m : Map) (s : Shadows) → goodMap m ≡ true → lengthsFit m s ≡ true → (a : ℕ)
+valid-one : (m : FormMap) (s : Shadows) → goodMap m ≡ true → lengthsFit m s ≡ true → (a : ℕ)
     → (call m (valid-write a 1 a) s) .1 ≡ oneTold s (readingAt m s a)
 unfolding shadowStep
 valid-one m s ok fit a = rw (call-step m (valid-write a 1 a) s ok fit, reading-words m s a)
 
 -- and so is what ask and valid tell of it
-pub image-told : (m : Map) → goodMap m ≡ true → (bs : List Block) → Placed (mapRules m) 0 bs → (a : ℕ) → toldAt m (image m bs) a ≡ lookup bs a
+pub image-told : (m : FormMap) → goodMap m ≡ true → (bs : List Block) → Placed (mapRules m) 0 bs → (a : ℕ) → toldAt m (image m bs) a ≡ lookup bs a
 image-told m ok bs P a =
     rw (ask-reads m (image m bs) ok (image-fits m bs) a, valid-one m (image m bs) ok (image-fits m bs) a, image-listed m ok bs P a)
     (go (find (contains a) bs) refl (test (outside m a)) none-out)
@@ -184,11 +191,11 @@ image-told m ok bs P a =
     none-out : outside m a ≡ true → find (contains a) bs ≡ none
     none-out t = none-outside (mapRules m) (map-sound m ok) bs 0 a P (not-true (mapRules m .inside a) (outside-words m a ∙ t))
 
-pub read-back : ReadBack
+pub read-back : (m : FormMap) → ReadBack m
 read-back m ok bs P =
     ap (λ (rd : ℕ → Reading). collect rd 0 (endOfAreas m)) (fun-ext (image-told m ok bs P)) ∙ collect-lookup (mapRules m) (map-sound m ok) bs P
 
-pub made-of : MadeOf
+pub made-of : (m : FormMap) → MadeOf m
 made-of m s e =
     let r = audit-only m s e in
     let bs : List Block = r .1 .0 in

@@ -5,6 +5,7 @@ use mathlib.Core.Bool.{Bool, true, false, cond}
 use mathlib.Core.List.{List, [], _∷_}
 use Prim.Native.Nat.{ℕ, zero, suc, _+_, _*_, _-_, _≤_, _<_, min}
 use native.Mathlib.Omega.{arith}
+use native.Mathlib.Nat.{mul-le-mul-right}
 use lib.ListN.{length, take, length-take}
 use lib.Dec.{ltb, eqb}
 use borrow.Author.Tests.{ltb-true, ltb-false, eqb-true, eqb-false}
@@ -15,10 +16,10 @@ use Rattle.plain.specs.Gaps.{Gap, gapsAfter, gapsOf, Among, Ascending}
 use Rattle.demands.specs.Gaps.{beginsRun, runsBelow}
 use Rattle.demands.proofs.GapRuns.{begins-before, goes-on, begins-anew}
 
-module _ (f : ℕ → Bool) (from N : ℕ) where
+module _ (G : ℕ) (f : ℕ → Bool) (from N : ℕ) where
   -- the gap that begins at segment i
   abbrev pub gapAt : ℕ → Gap
-  gapAt i = record { start = from + i * 8; bytes = runOf f i (N - i) * 8 }
+  gapAt i = record { start = from + i * G; bytes = runOf f i (N - i) * G }
 
   -- the gaps that begin at one of the n segments from i on
   unfoldable pub listed : (n i : ℕ) → List Gap
@@ -35,21 +36,21 @@ module _ (f : ℕ → Bool) (from N : ℕ) where
 
   -- a run of r segments that goes on at i
   abbrev opened : (i r : ℕ) → Gap
-  opened i r = record { start = from + (i - r) * 8; bytes = (r + runOf f i (N - i)) * 8 }
+  opened i r = record { start = from + (i - r) * G; bytes = (r + runOf f i (N - i)) * G }
 
   -- where no segment before i is free, or r of them are
   both : (n i : ℕ) → i + n ≡ N
-      → (beginsRun f i ≡ f i → gapsAfter 8 from f n i 0 ≡ listed n i) × ((r : ℕ) → beginsRun f i ≡ false → gapsAfter 8 from f n i (suc r) ≡ opened i (suc r) ∷ listed n i)
+      → (beginsRun f i ≡ f i → gapsAfter G from f n i 0 ≡ listed n i) × ((r : ℕ) → beginsRun f i ≡ false → gapsAfter G from f n i (suc r) ≡ opened i (suc r) ∷ listed n i)
   unfolding gapsAfter listed runOf
   both zero i e = (λ b. refl, λ r b. let z : N - i ≡ 0 = omega arith in let p : suc r + 0 ≡ suc r = omega arith in rw (z, p))
   both (suc n) i e = go (test (f i)) (both n (suc i) (omega arith))
     where
       go : Test (f i)
-          → (beginsRun f (suc i) ≡ f (suc i) → gapsAfter 8 from f n (suc i) 0 ≡ listed n (suc i))
-          × ((r : ℕ) → beginsRun f (suc i) ≡ false → gapsAfter 8 from f n (suc i) (suc r) ≡ opened (suc i) (suc r) ∷ listed n (suc i))
-          → (beginsRun f i ≡ f i → cond (f i) (gapsAfter 8 from f n (suc i) 1) (gapsAfter 8 from f n (suc i) 0) ≡ cond (beginsRun f i) (gapAt i ∷ listed n (suc i)) (listed n (suc i)))
+          → (beginsRun f (suc i) ≡ f (suc i) → gapsAfter G from f n (suc i) 0 ≡ listed n (suc i))
+          × ((r : ℕ) → beginsRun f (suc i) ≡ false → gapsAfter G from f n (suc i) (suc r) ≡ opened (suc i) (suc r) ∷ listed n (suc i))
+          → (beginsRun f i ≡ f i → cond (f i) (gapsAfter G from f n (suc i) 1) (gapsAfter G from f n (suc i) 0) ≡ cond (beginsRun f i) (gapAt i ∷ listed n (suc i)) (listed n (suc i)))
           × ((r : ℕ) → beginsRun f i ≡ false
-          → cond (f i) (gapsAfter 8 from f n (suc i) (suc (suc r))) (record { start = from + (i - suc r) * 8; bytes = suc r * 8 } ∷ gapsAfter 8 from f n (suc i) 0)
+          → cond (f i) (gapsAfter G from f n (suc i) (suc (suc r))) (record { start = from + (i - suc r) * G; bytes = suc r * G } ∷ gapsAfter G from f n (suc i) 0)
           ≡ opened i (suc r) ∷ cond (beginsRun f i) (gapAt i ∷ listed n (suc i)) (listed n (suc i)))
       go (is-true t) ih = (
         λ b.
@@ -66,7 +67,7 @@ module _ (f : ℕ → Bool) (from N : ℕ) where
         λ r b. let q : suc r + 0 ≡ suc r = omega arith in rw (t, b, run-none i t (omega arith), q, ih .0 (begins-anew f i t)),
       )
 
-  pub gaps-listed : gapsOf 8 from f N ≡ listed N 0
+  pub gaps-listed : gapsOf G from f N ≡ listed N 0
   gaps-listed = both N 0 (omega arith) .0 refl
 
   -- ---- which gaps are among the first k
@@ -158,24 +159,24 @@ module _ (f : ℕ → Bool) (from N : ℕ) where
           let y : f j ≡ true = rw p at (run-at f b (N - b) (j - b) (omega arith)) in
           absurd (not-both (f j) y (begins-before f (suc j) j e refl))
 
-  each-later : (b n i : ℕ) → b < i → Each (λ (h : Gap). gapAt b .start + gapAt b .bytes < h .start) (listed n i)
+  each-later : 0 < G → (b n i : ℕ) → b < i → Each (λ (h : Gap). gapAt b .start + gapAt b .bytes < h .start) (listed n i)
   unfolding listed
-  each-later b zero i l = tt
-  each-later b (suc n) i l = go (test (beginsRun f i)) (each-later b n (suc i) (omega arith))
+  each-later g b zero i l = tt
+  each-later g b (suc n) i l = go (test (beginsRun f i)) (each-later g b n (suc i) (omega arith))
     where
       go : Test (beginsRun f i) → Each (λ (h : Gap). gapAt b .start + gapAt b .bytes < h .start) (listed n (suc i))
           → Each (λ (h : Gap). gapAt b .start + gapAt b .bytes < h .start) (cond (beginsRun f i) (gapAt i ∷ listed n (suc i)) (listed n (suc i)))
-      go (is-true t) ih = rw t (omega (arith, apart b i l t), ih)
+      go (is-true t) ih = rw t (omega (arith, mul-le-mul-right G (apart b i l t)), ih)
       go (is-false t) ih = rw t ih
 
-  ascends : (n i : ℕ) → Ascending (listed n i)
+  ascends : 0 < G → (n i : ℕ) → Ascending (listed n i)
   unfolding listed
-  ascends zero i = tt
-  ascends (suc n) i = go (test (beginsRun f i)) (ascends n (suc i))
+  ascends g zero i = tt
+  ascends g (suc n) i = go (test (beginsRun f i)) (ascends g n (suc i))
     where
       go : Test (beginsRun f i) → Ascending (listed n (suc i)) → Ascending (cond (beginsRun f i) (gapAt i ∷ listed n (suc i)) (listed n (suc i)))
-      go (is-true t) ih = rw t (each-later i n (suc i) (omega arith), ih)
+      go (is-true t) ih = rw t (each-later g i n (suc i) (omega arith), ih)
       go (is-false t) ih = rw t ih
 
-  pub ascending : Ascending (listed N 0)
-  ascending = ascends N 0
+  pub ascending : 0 < G → Ascending (listed N 0)
+  ascending g = ascends g N 0

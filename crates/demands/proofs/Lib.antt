@@ -3,6 +3,8 @@ pub mod Begun
 pub mod Demand1
 pub mod Demand2
 pub mod Demand3
+pub mod Desk
+pub mod DeskSamples
 pub mod GapLists
 pub mod GapRuns
 pub mod GapWords

@@ -10,15 +10,14 @@ use lib.ListN.{length-replicate, getD-replicate}
 use lib.Dec.{eqb}
 use Rattle.number.specs.Parts.{at, inPart}
 use Rattle.number.proofs.TestLaws.{Test, is-true, is-false, test, false-of, in-facts}
-use Rattle.map.specs.declared.Map.{Map}
+use Rattle.map.specs.FormMap.{FormMap}
 use Rattle.plain.specs.declared.Beginning.{Beginning}
 use Rattle.plain.specs.declared.Beginning.the-variants.{Written, Literal}
 use Rattle.plain.specs.Block.{len, startsWritten, begun}
 use Rattle.plain.specs.Blocks.{here}
 use Rattle.plain.specs.Rules.{Placed}
 use Rattle.plain.specs.Areas.{mapRules}
-use Rattle.plain.specs.Reading.{block}
-use Rattle.plain.specs.Call.{begin, record-written, record-literal, ask, number, done, firstOf, unless}
+use Rattle.plain.specs.Call.{begin, record-written, record-literal, number, done, firstOf, unless}
 use Rattle.plain.proofs.KeptLaws.{base-inside}
 use Rattle.stack_layout.specs.Code.{lowBits, primaryOf}
 use Rattle.stack_layout.specs.Image.{primaryOwn, secondaryOwn}
@@ -26,7 +25,7 @@ use Rattle.shadows.specs.Shadows.{Shadows, image, Place, heap, primary, seconda
 use Rattle.shadows.proofs.ShadowLaws.{map-sound}
 use Rattle.shadows.proofs.OwnLaws.{primary-own, secondary-own}
 use Rattle.monitor_base.specs.Calls.{refusals, call}
-use Rattle.demands.specs.Addresses.{inHeap, inStack, outside}
+use Rattle.demands.specs.Addresses.{inHeap, inStack}
 use Rattle.demands.specs.Demand1.{numberOf}
 use Rattle.demands.specs.Alters.{inPlace}
 use Rattle.demands.specs.Literals.{LiteralAnswers, twoAt, LiteralBytes, LiteralElsewhere}
@@ -38,10 +37,10 @@ use Rattle.demands.proofs.Alters.{record-stamps}
 -- ---- kind 14
 
 -- at a base outside the heap the refusals do not ask whether the block is a literal
-literal-refusals : (m : Map) (b l : ℕ) (s : Shadows) → inHeap m b ≡ false → firstOf (refusals m (record-literal b l) s) ≡ firstOf (refusals m (record-written b l) s)
+literal-refusals : (m : FormMap) (b l : ℕ) (s : Shadows) → inHeap m b ≡ false → firstOf (refusals m (record-literal b l) s) ≡ firstOf (refusals m (record-written b l) s)
 literal-refusals m b l s h = rw h
 
-pub literal-answers : LiteralAnswers
+pub literal-answers : (m : FormMap) → LiteralAnswers m
 unfolding call
 literal-answers m b l s h = rw (literal-refusals m b l s h) (go (firstOf (refusals m (record-written b l) s)) _ _)
   where
@@ -49,7 +48,7 @@ literal-answers m b l s h = rw (literal-refusals m b l s h) (go (firstOf (refusa
     go zero t u = refl
     go (suc k) t u = refl
 
-module _ (m : Map) (b l : ℕ) (s : Shadows) (e : numberOf m (record-literal b l) s ≡ 0) where
+module _ (m : FormMap) (b l : ℕ) (s : Shadows) (e : numberOf m (record-literal b l) s ≡ 0) where
   A : begun.Accepted m Literal b l s e
   A = begun.accepted m Literal b l s e
 
@@ -109,11 +108,11 @@ module _ (m : Map) (b l : ℕ) (s : Shadows) (e : numberOf m (record-literal b l
           let p = in-facts (b - m .«stack_start») (b - m .«stack_start» + l) q t in rw t (omega (arith, same-second q (p .0) (p .1)))
       go (is-false t) = rw t (omega arith)
 
-pub literal-bytes : LiteralBytes
+pub literal-bytes : (m : FormMap) → LiteralBytes m
 literal-bytes m b l s e q =
     rw (record-stamps m Literal b l s e q, record-stamps m Written b l s (e′ m b l s e) q) (bytes m b l s e q)
 
-pub literal-elsewhere : LiteralElsewhere
+pub literal-elsewhere : (m : FormMap) → LiteralElsewhere m
 literal-elsewhere m s ok fit b l n =
     let k : numberOf m (record-literal b l) s ≡ cond (eqb l 0) 3 4 = by-rows m (record-literal b l) s ∙ rw (ok, fit, misplaced (inHeap m b) (inStack m b) n) in
     refused-alters-nothing m (record-literal b l) s (λ z. some (eqb l 0) (sym k ∙ z)) ∙ rw k

@@ -12,6 +12,7 @@ use borrow.Author.Tests.{ne-eqb}
 use Rattle.number.specs.Bits.{bit}
 use Rattle.number.specs.Little.{word}
 use Rattle.number.specs.Parts.{at}
+use Rattle.map.specs.FormMap.{FormMap}
 use Rattle.map.specs.Map.{goodMap}
 use Rattle.plain.specs.Block.{Block, len, contains, isWritten}
 use Rattle.plain.specs.Blocks.{find}
@@ -70,7 +71,7 @@ up-literal z nothing = refl
 up-literal z (block b l o w t) = refl
 up-literal z damaged = refl
 
-pub bit-one : BitOne
+pub bit-one : (m : FormMap) → BitOne m
 unfolding stackReading codeReading
 bit-one m s s′ a x h k ex ey es =
     let size : ℕ = m .«stack_size» in
@@ -87,7 +88,7 @@ bit-one m s s′ a x h k ex ey es =
           (up-literal (m .«stack_start») (codeReading size se p (x / 4) (x % 4))),
     )
 
-pub audit-wants : AuditWants
+pub audit-wants : (m : FormMap) → AuditWants m
 audit-wants m s e a b l o w t r =
     let A = audit-only m s e in
     let bs : List Block = A .1 .0 in

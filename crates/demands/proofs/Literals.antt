@@ -11,7 +11,7 @@ use lib.Dec.{leb, eqb}
 use borrow.Author.Tests.{ne-eqb, eqb-true, eqb-false}
 use Rattle.number.specs.Parts.{at, inPart}
 use Rattle.number.proofs.TestLaws.{Test, is-true, is-false, test, and-true, false-of, not-both, in-facts}
-use Rattle.map.specs.declared.Map.{Map}
+use Rattle.map.specs.FormMap.{FormMap}
 use Rattle.map.specs.Map.{goodMap}
 use Rattle.plain.specs.Block.{Block, len, begun, contains, holds, hasBase}
 use Rattle.plain.specs.Blocks.{any, Has}
@@ -40,7 +40,7 @@ use Rattle.demands.proofs.Demand3.{on-every-image, stays-placed}
 
 -- ---- valid_read and valid
 
-module _ (m : Map) (ok : goodMap m ≡ true) (bs : List Block) (P : Placed (mapRules m) 0 bs) (w : Bool) (a n from : ℕ) (k : 1 ≤ n) where
+module _ (m : FormMap) (ok : goodMap m ≡ true) (bs : List Block) (P : Placed (mapRules m) 0 bs) (w : Bool) (a n from : ℕ) (k : 1 ≤ n) where
   abbrev Good : Block → Bool
   Good b = holds a n b && contains from b && not (w && b .literal)
 
@@ -66,14 +66,14 @@ module _ (m : Map) (ok : goodMap m ≡ true) (bs : List Block) (P : Placed (mapR
   no : ((b : Block) → HeldBy b bs a n from → not (w && b .literal) ≡ true → ⊥) → call m (valid w a n from) (image m bs) ≡ (image m bs, answer 0 0 0 0 0)
   no f = answers ∙ rw (none-any Good bs (λ b h e. let g = good-held b h e in f b (g .0) (g .1)))
 
-pub read-exactly : ReadExactly
+pub read-exactly : (m : FormMap) → ReadExactly m
 read-exactly m ok bs P a n from k = (λ b h. yes m ok bs P false a n from k b h refl, λ f. no m ok bs P false a n from k (λ b h t. f b h))
 
 not-not : (t : Bool) → not t ≡ true → t ≡ false
 not-not true e = sym e
 not-not false e = refl
 
-pub write-exactly : WriteExactly
+pub write-exactly : (m : FormMap) → WriteExactly m
 write-exactly m ok bs P a n from k = (
   λ b h l. yes m ok bs P true a n from k b h (ap not l),
   λ f. no m ok bs P true a n from k (λ b h t. f b h (not-not (b .literal) t)),
@@ -82,7 +82,7 @@ write-exactly m ok bs P a n from k = (
 -- ---- written is refused
 
 -- an address that is read as a block lies in an area
-block-inside : (m : Map) (s : Shadows) (a b l o w : ℕ) (t : Bool) → readAny (mapRules m) (shadowOps m) s a ≡ block b l o w t → mapRules m .inside a ≡ true
+block-inside : (m : FormMap) (s : Shadows) (a b l o w : ℕ) (t : Bool) → readAny (mapRules m) (shadowOps m) s a ≡ block b l o w t → mapRules m .inside a ≡ true
 unfolding readAny
 block-inside m s a b l o w t e = go (test (mapRules m .inside a))
   where
@@ -90,7 +90,7 @@ block-inside m s a b l o w t e = go (test (mapRules m .inside a))
     go (is-true i) = i
     go (is-false i) = absurd (let z : nothing ≡ block b l o w t = rw i at e in let x : _≡_ {A = ℕ} 0 1 = cc in omega arith)
 
-pub written-refused : WrittenRefused
+pub written-refused : (m : FormMap) → WrittenRefused m
 unfolding shadowStep
 written-refused m s ok fit a n b l o w e =
     let r : readAny (mapRules m) (shadowOps m) s a ≡ block b l o w true = reading-words m s a ∙ e in
@@ -103,7 +103,7 @@ written-refused m s ok fit a n b l o w e =
 
 -- ---- a literal stays
 
-module _ (m : Map) (ok : goodMap m ≡ true) (bs : List Block) (P : Placed (mapRules m) 0 bs) (b : Block) (h : Has b bs) (t : b .literal ≡ true) where
+module _ (m : FormMap) (ok : goodMap m ≡ true) (bs : List Block) (P : Placed (mapRules m) 0 bs) (b : Block) (h : Has b bs) (t : b .literal ≡ true) where
   -- it lies in the stack
   no-heap : inHeap m (b .base) ≡ false
   no-heap = false-of (inHeap m (b .base)) (λ x. let z = has-proper (mapRules m) 0 P h t .0 in true≢false (rw x at z))
@@ -143,7 +143,7 @@ module _ (m : Map) (ok : goodMap m ≡ true) (bs : List Block) (P : Placed (mapR
       go (suc k) z = h
 
 -- its bytes are those that it makes, on every image of a list that has it
-same-bytes : (m : Map) → goodMap m ≡ true → (bs cs : List Block) → Placed (mapRules m) 0 bs → Placed (mapRules m) 0 cs → (b : Block) → Has b bs → Has b cs
+same-bytes : (m : FormMap) → goodMap m ≡ true → (bs cs : List Block) → Placed (mapRules m) 0 bs → Placed (mapRules m) 0 cs → (b : Block) → Has b bs → Has b cs
     → b .literal ≡ true → (q : Place) → inPlace m (b .base) (len b) q ≡ true → byteAt (image m cs) q ≡ byteAt (image m bs) q
 same-bytes m ok bs cs P Q b h k t q e = go q e
   where
@@ -164,7 +164,7 @@ same-bytes m ok bs cs P Q b h k t q e = go q e
     go (secondary q) e =
         let p = part q e in secondary-own m ok cs Q b k i q (p .0) (p .1) ∙ sym (secondary-own m ok bs P b h i q (p .0) (p .1))
 
-pub literal-stays : LiteralStays
+pub literal-stays : (m : FormMap) → LiteralStays m
 literal-stays m ok bs P b h t c e =
     let k = still-has m ok bs P b h t c e in (
       k,

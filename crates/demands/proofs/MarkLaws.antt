@@ -5,7 +5,8 @@ use mathlib.Core.Bool.{true, false, cond}
 use mathlib.Core.List.{List, [], _∷_}
 use Prim.Native.Nat.{ℕ, zero, suc, _+_, _*_, _-_, _/_, _%_, _^_, _≤_, _<_}
 use native.Mathlib.Omega.{arith}
-use native.Mathlib.Nat.{mod-lt, div-self, div-eq-of-lt, mul-div-left, pow-suc}
+use native.Mathlib.Nat.{div-add-mod', mul-le-mul-right, mul-mod-left, le-div-iff-mul-le, div-lt-iff-lt-mul, mod-lt, div-self, div-eq-of-lt, mul-div-left, pow-suc}
+use lib.Arith.{digits-div, digits-mod}
 use lib.Pow.{pow-pos, pow-add, pow-lt}
 use lib.Bits.{bitOr, or-shr, or-mod, or-zero-r}
 use lib.ListN.{length, set, length-set}
@@ -15,16 +16,18 @@ use borrow.Author.Tests.{ltb-true, ltb-false, eqb-true, eqb-false, ne-eqb}
 use Rattle.number.specs.Bits.{bitOf, withBit}
 use Rattle.number.specs.Parts.{at}
 use Rattle.number.proofs.TestLaws.{Test, is-true, is-false, test, not-both, eqb-same}
-use Rattle.map.specs.declared.Map.{Map}
+use Rattle.map.specs.FormMap.{FormMap}
 use Rattle.map.specs.Map.{goodMap}
-use Rattle.map.proofs.MapLaws.{good-true, within-true}
+use Rattle.map.proofs.MapLaws.{good-true, within-true, number-holds}
 use Rattle.plain.specs.Areas.{mapRules}
 use Rattle.plain.specs.Ops.{Ops, markRange}
+use Rattle.heap_layout.specs.Reading.{bitsPlace, writtenBit}
 use Rattle.heap_layout.specs.Ops.{heapMark}
+use Rattle.heap_layout.proofs.SegmentLaws.{Sizes, aligned-eq, segment-in}
 use Rattle.stack_layout.specs.Ops.{stackMark, withWritten}
 use Rattle.shadows.specs.Shadows.{Shadows, shadowOps}
 use Rattle.shadows.proofs.ShadowLaws.{Fit}
-use Rattle.demands.specs.Addresses.{inHeap}
+use Rattle.demands.specs.Addresses.{inHeap, bitBytes}
 use Rattle.demands.specs.Alters.{writtenAt}
 
 -- ---- bits
@@ -57,28 +60,72 @@ with-bit-other b i j n =
 -- ---- one mark
 
 -- the written bit of position r, where position p is marked
-heap-bit : (h : List ℕ) (p r : ℕ) → p / 8 * 8 + 4 < length h
-    → bitOf (at (heapMark 4 8 h p) (r / 8 * 8 + 4)) (r % 8) ≡ cond (eqb r p) 1 (bitOf (at h (r / 8 * 8 + 4)) (r % 8))
-unfolding heapMark
-heap-bit h p r l =
-    let k : p / 8 * 8 + (4 + p % 8 / 8) ≡ p / 8 * 8 + 4 = omega arith in
-    let j : p % 8 % 8 ≡ p % 8 = omega arith in
-    rw (k, j) (go (test (eqb r p)) (test (eqb (r / 8 * 8 + 4) (p / 8 * 8 + 4))))
-  where
-    v : ℕ
-    v = withBit (at h (p / 8 * 8 + 4)) (p % 8)
+-- the position of a multiple in an area that begins at one is a multiple
+pub aligned-sub : (G b h : ℕ) → 0 < G → h ≤ b → b % G ≡ 0 → h % G ≡ 0 → (b - h) % G ≡ 0
+aligned-sub G b h g l x y =
+    let eb = aligned-eq g b x in
+    let eh = aligned-eq g h y in
+    let k = le-div-iff-mul-le {k = G} {x = h / G} {y = b} g .1 (omega arith) in
+    let n : b / G ≡ h / G + (b / G - h / G) = omega arith in
+    let m : b / G * G ≡ (h / G + (b / G - h / G)) * G = ap (λ (z : ℕ). z * G) n in
+    let e : b - h ≡ (b / G - h / G) * G = omega arith in
+    rw e (mul-mod-left (b / G - h / G) G)
 
-    go : Test (eqb r p) → Test (eqb (r / 8 * 8 + 4) (p / 8 * 8 + 4))
-        → bitOf (at (set h (p / 8 * 8 + 4) v) (r / 8 * 8 + 4)) (r % 8) ≡ cond (eqb r p) 1 (bitOf (at h (r / 8 * 8 + 4)) (r % 8))
-    go (is-true c) d =
-        let e : r ≡ p = eqb-true r p c in
-        rw (c, e, getD-set-same h (p / 8 * 8 + 4) v 0 l) (with-bit-same (at h (p / 8 * 8 + 4)) (p % 8))
-    go (is-false c) (is-true d) =
-        let n = eqb-false r p c in
-        let e : r / 8 * 8 + 4 ≡ p / 8 * 8 + 4 = eqb-true (r / 8 * 8 + 4) (p / 8 * 8 + 4) d in
-        rw (c, e, getD-set-same h (p / 8 * 8 + 4) v 0 l) (with-bit-other (at h (p / 8 * 8 + 4)) (r % 8) (p % 8) (λ x. n (omega arith)))
-    go (is-false c) (is-false d) =
-        rw (c, getD-set-other h (p / 8 * 8 + 4) (r / 8 * 8 + 4) v 0 (eqb-false (r / 8 * 8 + 4) (p / 8 * 8 + 4) d))
+module _ (W G : ℕ) (wide : 4 ≤ W) (two : W + W ≤ G) where
+  -- a byte of written bits stands in its segment
+  pub bits-in : (p : ℕ) → W + p % G / 8 < G
+  bits-in p = omega (arith, mod-lt p {m = G} (omega arith))
+
+  segment-of : (p : ℕ) → bitsPlace W G p / G ≡ p / G
+  segment-of p = digits-div (p / G) (bits-in p)
+
+  offset-of : (p : ℕ) → bitsPlace W G p % G ≡ W + p % G / 8
+  offset-of p = digits-mod (p / G) (bits-in p)
+
+  -- that of a position of n segments from c on stands in them
+  pub bits-among : (c n p : ℕ) → c % G ≡ 0 → c ≤ p → p < c + n * G → (c ≤ bitsPlace W G p) × (bitsPlace W G p < c + n * G)
+  bits-among c n p a x y =
+      let g : 0 < G = omega arith in
+      let e = aligned-eq g c a in
+      let lo = le-div-iff-mul-le {k = G} {x = c / G} {y = p} g .1 (omega arith) in
+      let hi = div-lt-iff-lt-mul {k = G} {x = p} {y = c / G + n} g .1 (omega arith) in
+      (omega (arith, mul-le-mul-right G lo), omega (arith, mul-le-mul-right G hi, bits-in p))
+
+  same-position : (r p : ℕ) → bitsPlace W G r ≡ bitsPlace W G p → r % G % 8 ≡ p % G % 8 → r ≡ p
+  same-position r p e k =
+      let a : r / G ≡ p / G = sym (segment-of r) ∙ ap (λ (x : ℕ). x / G) e ∙ segment-of p in
+      let b : W + r % G / 8 ≡ W + p % G / 8 = sym (offset-of r) ∙ ap (λ (x : ℕ). x % G) e ∙ offset-of p in
+      let c : r / G * G ≡ p / G * G = rw a in
+      omega (arith, div-add-mod' r G, div-add-mod' p G)
+
+  heap-bit : (h : List ℕ) (p r : ℕ) → bitsPlace W G p < length h
+      → writtenBit W G (at (heapMark W G h p)) r ≡ cond (eqb r p) 1 (writtenBit W G (at h) r)
+  unfolding heapMark
+  heap-bit h p r l = go (test (eqb r p)) (test (eqb (bitsPlace W G r) (bitsPlace W G p)))
+    where
+      v : ℕ
+      v = withBit (at h (bitsPlace W G p)) (p % G % 8)
+
+      go : Test (eqb r p) → Test (eqb (bitsPlace W G r) (bitsPlace W G p))
+          → bitOf (at (set h (bitsPlace W G p) v) (bitsPlace W G r)) (r % G % 8) ≡ cond (eqb r p) 1 (bitOf (at h (bitsPlace W G r)) (r % G % 8))
+      go (is-true c) d =
+          let e : r ≡ p = eqb-true r p c in
+          rw (c, e, getD-set-same h (bitsPlace W G p) v 0 l) (with-bit-same (at h (bitsPlace W G p)) (p % G % 8))
+      go (is-false c) (is-true d) =
+          let n = eqb-false r p c in
+          let e : bitsPlace W G r ≡ bitsPlace W G p = eqb-true (bitsPlace W G r) (bitsPlace W G p) d in
+          rw (c, e, getD-set-same h (bitsPlace W G p) v 0 l) (with-bit-other (at h (bitsPlace W G p)) (r % G % 8) (p % G % 8) (λ x. n (same-position r p e x)))
+      go (is-false c) (is-false d) =
+          rw (c, getD-set-other h (bitsPlace W G p) (bitsPlace W G r) v 0 (eqb-false (bitsPlace W G r) (bitsPlace W G p) d))
+
+  -- whatever is no written bit
+  heap-rest : (h : List ℕ) (p q : ℕ) → (q % G < W) ⊎ (W + (G + 7) / 8 ≤ q % G) → at (heapMark W G h p) q ≡ at h q
+  unfolding heapMark
+  heap-rest h p q n = getD-set-other h (bitsPlace W G p) q _ 0 (λ e. apart n (ap (λ (x : ℕ). x % G) e ∙ offset-of p))
+    where
+      apart : (q % G < W) ⊎ (W + (G + 7) / 8 ≤ q % G) → q % G ≡ W + p % G / 8 → ⊥
+      apart (inl x) e = omega arith
+      apart (inr x) e = omega (arith, mod-lt p {m = G} (omega arith))
 
 stack-bit : (l : List ℕ) (p r : ℕ) → p < length l → at (set l p (withWritten (at l p))) r % 2 ≡ cond (eqb r p) 1 (at l r % 2)
 stack-bit l p r k = go (test (eqb r p))
@@ -86,11 +133,6 @@ stack-bit l p r k = go (test (eqb r p))
     go : Test (eqb r p) → at (set l p (withWritten (at l p))) r % 2 ≡ cond (eqb r p) 1 (at l r % 2)
     go (is-true c) = let e : r ≡ p = eqb-true r p c in rw (c, e, getD-set-same l p (withWritten (at l p)) 0 k) (omega arith)
     go (is-false c) = rw (c, getD-set-other l p r (withWritten (at l p)) 0 (eqb-false r p c))
-
--- whatever is no written bit
-heap-rest : (h : List ℕ) (p q : ℕ) → q % 8 ≢ 4 → at (heapMark 4 8 h p) q ≡ at h q
-unfolding heapMark
-heap-rest h p q n = getD-set-other h (p / 8 * 8 + (4 + p % 8 / 8)) q _ 0 (λ e. n (omega arith))
 
 primary-rest : (l : List ℕ) (p q : ℕ) → at (set l p (withWritten (at l p))) q / 2 ≡ at l q / 2
 primary-rest [] p q = refl
@@ -100,24 +142,24 @@ primary-rest (x ∷ xs) (suc p) zero = refl
 primary-rest (x ∷ xs) (suc p) (suc q) = primary-rest xs p q
 
 -- s and t have the same bytes but for written bits
-pub record SameRest (s t : Shadows) : Type 0 where
-  pub heap-same : (q : ℕ) → q % 8 ≢ 4 → at (t .0) q ≡ at (s .0) q
+pub record SameRest (m : FormMap) (s t : Shadows) : Type 0 where
+  pub heap-same : (q : ℕ) → (q % m .segment < m .width) ⊎ (m .width + bitBytes m ≤ q % m .segment) → at (t .0) q ≡ at (s .0) q
   pub primary-same : (q : ℕ) → at (t .1 .0) q / 2 ≡ at (s .1 .0) q / 2
   pub secondary-same : t .1 .1 ≡ s .1 .1
 
-module _ (m : Map) where
+module _ (m : FormMap) where
   abbrev O : Ops Shadows
   O = shadowOps m
 
-  mark-rest : (s : Shadows) (y : ℕ) → SameRest s (O .mark s y)
+  mark-rest : (s : Shadows) (y : ℕ) → SameRest m s (O .mark s y)
   unfolding stackMark
   mark-rest s y = go (test (inHeap m y))
     where
-      go : Test (inHeap m y) → SameRest s (O .mark s y)
-      go (is-true t) = rw t (record { heap-same = λ q n. heap-rest (s .0) (y - m .«heap_start») q n; primary-same = λ q. refl; secondary-same = refl })
+      go : Test (inHeap m y) → SameRest m s (O .mark s y)
+      go (is-true t) = rw t (record { heap-same = λ q n. heap-rest (m .width) (m .segment) (m .wide) (m .two) (s .0) (y - m .«heap_start») q n; primary-same = λ q. refl; secondary-same = refl })
       go (is-false t) = rw t (record { heap-same = λ q n. refl; primary-same = λ q. primary-rest (s .1 .0) (y - m .«stack_start») q; secondary-same = refl })
 
-  pub range-rest : (n a : ℕ) (s : Shadows) → SameRest s (markRange O s a n)
+  pub range-rest : (n a : ℕ) (s : Shadows) → SameRest m s (markRange O s a n)
   unfolding markRange
   range-rest zero a s = record { heap-same = λ q n. refl; primary-same = λ q. refl; secondary-same = refl }
   range-rest (suc n) a s =
@@ -139,7 +181,7 @@ module _ (m : Map) where
 
 -- ---- the written bits of addresses
 
-module _ (m : Map) (ok : goodMap m ≡ true) where
+module _ (m : FormMap) (ok : goodMap m ≡ true) where
   abbrev hs : ℕ
   hs = m .«heap_start»
 
@@ -163,7 +205,11 @@ module _ (m : Map) (ok : goodMap m ≡ true) where
           let u = within-true hs (m .«heap_size») y h in
           let v = within-true hs (m .«heap_size») x k in
           let e : eqb (x - hs) (y - hs) ≡ eqb x y = eqb-same (x - hs) (y - hs) x y (λ d. omega arith) (λ d. omega arith) in
-          rw (h, k) (heap-bit (s .0) (y - hs) (x - hs) (omega (arith, f .0, good-true m ok .heapSize8)) ∙ rw e)
+          let g = good-true m ok in
+          let z : Sizes (m .width) (m .segment) (m .«heap_size») = record { wide = m .wide; two = m .two; small = number-holds m (m .«heap_size») (g .heapMost); whole = g .heapSizeWhole } in
+          let w = segment-in z (y - hs) (omega arith) in
+          rw (h, k)
+          (heap-bit (m .width) (m .segment) (m .wide) (m .two) (s .0) (y - hs) (x - hs) (omega (arith, f .0, bits-in (m .width) (m .segment) (m .wide) (m .two) (y - hs))) ∙ rw e)
       go (is-true h) (is-false k) = rw (h, k, ne-eqb x y (λ d. not-same y x h k (sym d)))
       go (is-false h) (is-true k) = rw (h, k, ne-eqb x y (not-same x y k h))
       go (is-false h) (is-false k) =

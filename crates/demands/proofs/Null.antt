@@ -5,6 +5,7 @@ use mathlib.Core.List.{List}
 use mathlib.Core.Option.{Option, none, some}
 use Prim.Native.Nat.{ℕ, zero, suc}
 use Rattle.number.proofs.TestLaws.{not-both}
+use Rattle.map.specs.FormMap.{FormMap}
 use Rattle.map.proofs.MapLaws.{zero-outside}
 use Rattle.plain.specs.Block.{Block, len, contains}
 use Rattle.plain.specs.Blocks.{find, found, any}
@@ -21,10 +22,10 @@ use Rattle.monitor_base.proofs.LocatingLaws.{read-out, null-inside}
 use Rattle.demands.proofs.Numbers.{outside-words, reading-words}
 use Rattle.demands.specs.Null.{NullOutside, NoBlockAtNull, FreeOfNull, FreeOutside}
 
-pub null-outside : NullOutside
+pub null-outside : (m : FormMap) → NullOutside m
 null-outside m ok = sym (outside-words m 0) ∙ ap not (null-inside m ok)
 
-pub no-block-at-null : NoBlockAtNull
+pub no-block-at-null : (m : FormMap) → NoBlockAtNull m
 no-block-at-null m ok = (unlisted, λ s. sym (reading-words m s 0) ∙ read-out m s 0 (zero-outside m ok) .0)
   where
     unlisted : (bs : List Block) → Placed (mapRules m) 0 bs → any (contains 0) bs ≡ false
@@ -37,7 +38,7 @@ no-block-at-null m ok = (unlisted, λ s. sym (reading-words m s 0) ∙ read-out 
             let h = contains-true 0 b (f .so) in
             absurd (not-both _ (map-sound m ok .in-inside (b .base) (len b) 0 (f .fits) (h .0) (h .1)) (null-inside m ok))
 
-pub free-of-null : FreeOfNull
+pub free-of-null : (m : FormMap) → FreeOfNull m
 unfolding call plainStep
 free-of-null m = (λ s. go s (firstOf (refusals m (free 0) s)), λ bs. refl)
   where
@@ -45,7 +46,7 @@ free-of-null m = (λ s. go s (firstOf (refusals m (free 0) s)), λ bs. refl)
     go s zero = refl
     go s (suc k) = refl
 
-pub free-outside : FreeOutside
+pub free-outside : (m : FormMap) → FreeOutside m
 unfolding call
 free-outside m s zero ok fit n i = absurd (n refl)
 free-outside m s (suc a) ok fit n i = rw (ok, fit, outside-words m (suc a), i)

@@ -7,7 +7,7 @@ use native.Mathlib.Omega.{arith}
 use lib.Dec.{leb, eqb}
 use borrow.Author.Tests.{ne-eqb}
 use Rattle.number.specs.Bits.{bit}
-use Rattle.map.specs.declared.Map.{Map}
+use Rattle.map.specs.FormMap.{FormMap}
 use Rattle.map.specs.Map.{goodMap}
 use Rattle.map.proofs.MapLaws.{good-true, within-true}
 use Rattle.plain.specs.declared.Beginning.{Beginning}
@@ -31,7 +31,7 @@ use Rattle.demands.proofs.GapWords.{room-words}
 -- ---- the first condition that holds
 
 -- what a call answers where it is not refused has number 0
-pub number-first : (m : Map) (c : Call) (s : Shadows) → number ((call m c s) .1) ≡ firstOf (refusals m c s)
+pub number-first : (m : FormMap) (c : Call) (s : Shadows) → number ((call m c s) .1) ≡ firstOf (refusals m c s)
 unfolding call
 number-first m c s = unless-number (firstOf (refusals m c s)) s _ (accepted-0 (mapRules m) (shadowOps m) c s)
 
@@ -77,7 +77,7 @@ either : (h k : Bool) (x y : Reading) → cond (h || k) (cond h x y) nothing ≡
 either true k x y = refl
 either false k x y = refl
 
-pub outside-words : (m : Map) (a : ℕ) → not (mapRules m .inside a) ≡ outside m a
+pub outside-words : (m : FormMap) (a : ℕ) → not (mapRules m .inside a) ≡ outside m a
 outside-words m a = neither (inHeap m a) (inStack m a)
 
 -- an address of the stack, which is not the heap's
@@ -88,17 +88,17 @@ on-stack false true n = refl
 on-stack false false n = refl
 
 -- the areas of a good map share no address
-pub apart-words : (m : Map) → goodMap m ≡ true → (a : ℕ) → inHeap m a ≡ true → inStack m a ≡ true → ⊥
+pub apart-words : (m : FormMap) → goodMap m ≡ true → (a : ℕ) → inHeap m a ≡ true → inStack m a ≡ true → ⊥
 apart-words m ok a h k =
     let g = good-true m ok in
     let u = within-true (m .«heap_start») (m .«heap_size») a h in
     let v = within-true (m .«stack_start») (m .«stack_size») a k in
     g .noShare (omega arith) (omega arith)
 
-pub stack-words : (m : Map) → goodMap m ≡ true → (a : ℕ) → isStack (mapRules m) a ≡ inStack m a
+pub stack-words : (m : FormMap) → goodMap m ≡ true → (a : ℕ) → isStack (mapRules m) a ≡ inStack m a
 stack-words m ok a = on-stack (inHeap m a) (inStack m a) (apart-words m ok a)
 
-pub misplaced-words : (m : Map) (how : Beginning) (b l : ℕ) → not (allows (mapRules m) how b l) ≡ isMisplaced m (begin how b l)
+pub misplaced-words : (m : FormMap) (how : Beginning) (b l : ℕ) → not (allows (mapRules m) how b l) ≡ isMisplaced m (begin how b l)
 misplaced-words m how b l = go how
   where
     h : Bool
@@ -108,7 +108,7 @@ misplaced-words m how b l = go how
     k = inStack m b
 
     x : Bool
-    x = leb (m .«heap_start» + 8) b
+    x = leb (m .«heap_start» + m .segment) b
 
     y : Bool
     y = leb (b + l) (m .«heap_start» + m .«heap_size»)
@@ -121,14 +121,14 @@ misplaced-words m how b l = go how
     go Written = ap not (and-right (mapRules m .fits b l)) ∙ misfit h k x y z
     go Literal = elsewhere h k x y z
 
-pub unaligned-words : (m : Map) (b : ℕ) → not (mapRules m .aligned b) ≡ (inHeap m b && not (eqb (b % 8) 0))
-unaligned-words m b = uneven (inHeap m b) (eqb (b % 8) 0)
+pub unaligned-words : (m : FormMap) (b : ℕ) → not (mapRules m .aligned b) ≡ (inHeap m b && not (eqb (b % m .segment) 0))
+unaligned-words m b = uneven (inHeap m b) (eqb (b % m .segment) 0)
 
-pub taken-words : (m : Map) (s : Shadows) (b l : ℕ) → shadowOps m .vacant s b l ≡ placeZero m s b l
+pub taken-words : (m : FormMap) (s : Shadows) (b l : ℕ) → shadowOps m .vacant s b l ≡ placeZero m s b l
 unfolding heapVacant placeLength stackVacant
 taken-words m s b l = refl
 
-pub reading-words : (m : Map) (s : Shadows) (a : ℕ) → readAny (mapRules m) (shadowOps m) s a ≡ readingAt m s a
+pub reading-words : (m : FormMap) (s : Shadows) (a : ℕ) → readAny (mapRules m) (shadowOps m) s a ≡ readingAt m s a
 unfolding readAny
 reading-words m s a = either (inHeap m a) (inStack m a) _ _
 
@@ -161,7 +161,7 @@ module _ (rd : ℕ → Reading) where
       go (block b l (suc o) w t) e ih = let z = ne-eqb (suc o) 0 (omega arith) in rw z (ih (rw z at e))
       go damaged e ih = absurd (true≢false e)
 
-pub search-words : (m : Map) (s : Shadows) (a : ℕ) → search (mapRules m) (shadowOps m) s a ≡ climb (readingAt m s) a (endOfAreas m - a)
+pub search-words : (m : FormMap) (s : Shadows) (a : ℕ) → search (mapRules m) (shadowOps m) s a ≡ climb (readingAt m s) a (endOfAreas m - a)
 search-words m s a = ap (λ (rd : ℕ → Reading). climb rd a (endOfAreas m - a)) (fun-ext (reading-words m s))
 
 -- ---- the rows
@@ -171,7 +171,7 @@ after-eight : (d n k : Bool) (r : ℕ) → (d ≡ false → n ≡ k) → _≡_ {
 after-eight true n k r h = refl
 after-eight false n k r h = rw (h refl)
 
-pub later-rows : (m : Map) → goodMap m ≡ true → (c : Call) (s : Shadows)
+pub later-rows : (m : FormMap) → goodMap m ≡ true → (c : Call) (s : Shadows)
     → firstOf (byRules (mapRules m) c ++ byShadows (mapRules m) (shadowOps m) c s) ≡ firstOf (pastTwo (rows m c s))
 later-rows m ok clear s = refl
 later-rows m ok (begin h b l) s = rw (misplaced-words m h b l, unaligned-words m b, taken-words m s b l)
@@ -196,8 +196,8 @@ pub by-goodness : (g : Bool) (j k : ℕ) → (g ≡ true → j ≡ k) → _≡_ 
 by-goodness true j k h = h refl
 by-goodness false j k h = refl
 
-same-rows : (m : Map) (c : Call) (s : Shadows) → firstOf (refusals m c s) ≡ firstOf (rows m c s)
+same-rows : (m : FormMap) (c : Call) (s : Shadows) → firstOf (refusals m c s) ≡ firstOf (rows m c s)
 same-rows m c s = by-goodness (goodMap m) _ _ (λ ok. ap (λ (k : ℕ). cond (not (lengthsFit m s)) 2 k) (later-rows m ok c s))
 
-pub by-rows : (m : Map) (c : Call) (s : Shadows) → number ((call m c s) .1) ≡ firstOf (rows m c s)
+pub by-rows : (m : FormMap) (c : Call) (s : Shadows) → number ((call m c s) .1) ≡ firstOf (rows m c s)
 by-rows m c s = number-first m c s ∙ same-rows m c s

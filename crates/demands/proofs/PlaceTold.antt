@@ -7,7 +7,7 @@ use native.Mathlib.Omega.{arith}
 use lib.Dec.{leb, eqb}
 use borrow.Author.Tests.{le-leb, leb-true, eq-eqb, eqb-true, eqb-false}
 use Rattle.number.proofs.TestLaws.{Test, is-true, is-false, test, and-true, false-of}
-use Rattle.map.specs.declared.Map.{Map}
+use Rattle.map.specs.FormMap.{FormMap}
 use Rattle.plain.specs.Call.{place, Answer}
 use Rattle.shadows.specs.Shadows.{Shadows}
 use Rattle.monitor_base.specs.Calls.{call}
@@ -15,7 +15,7 @@ use Rattle.demands.specs.Gaps.{heapSegments, gapSize, isLooked}
 use Rattle.demands.specs.Demand1.{numberOf}
 use Rattle.demands.specs.Told.{lowestFrom, placeHere, placeTold}
 use Rattle.demands.specs.Places.{IsGap, Fits}
-use Rattle.demands.proofs.Places.{gap-looked, looked-gap, accepted, Picked, picked}
+use Rattle.demands.proofs.Places.{gap-longest, gap-looked, looked-gap, accepted, Picked, picked}
 
 lowest-none : (p : ℕ → Bool) (i n : ℕ) → ((j : ℕ) → i ≤ j → j < i + n → p j ≡ false) → lowestFrom p i n ≡ none
 unfolding lowestFrom
@@ -31,25 +31,25 @@ lowest-some p i (suc n) j x y e h = go (test (eqb i j)) (λ z. lowest-some p (su
     go (is-true t) ih = let q = eqb-true i j t in rw (q, e)
     go (is-false t) ih = let q = eqb-false i j t in rw (h i (omega arith) (omega arith)) (ih (omega arith))
 
-module _ (m : Map) (s : Shadows) (l k i n : ℕ) (P : Picked m s l k i n) where
+module _ (m : FormMap) (s : Shadows) (l k i n : ℕ) (P : Picked m s l k i n) where
   abbrev at-size : (x j : ℕ) → Bool
-  at-size x j = leb (8 + l) (x * 8) && isLooked s k j && eqb (gapSize m s j) x
+  at-size x j = leb (m .segment + l) (x * m .segment) && isLooked m s k j && eqb (gapSize m s j) x
 
   size-fits : (x j : ℕ) → j < heapSegments m → at-size x j ≡ true → Fits m s l k j x
   size-fits x j b e =
-      let u = and-true (leb (8 + l) (x * 8) && isLooked s k j) (eqb (gapSize m s j) x) e in
-      let v = and-true (leb (8 + l) (x * 8)) (isLooked s k j) (u .0) in
+      let u = and-true (leb (m .segment + l) (x * m .segment) && isLooked m s k j) (eqb (gapSize m s j) x) e in
+      let v = and-true (leb (m .segment + l) (x * m .segment)) (isLooked m s k j) (u .0) in
       let h = looked-gap m s k j b (v .1) in
       record {
         gap = subst (λ (y : ℕ). IsGap m s j y) (eqb-true (gapSize m s j) x (u .1)) (h .0);
         looked = h .1;
-        holds = leb-true (8 + l) (x * 8) (v .0);
+        holds = leb-true (m .segment + l) (x * m .segment) (v .0);
       }
 
   here : at-size n i ≡ true
   here =
       let r = gap-looked m s k i n (P .fits .gap) (P .fits .looked) in
-      rw (le-leb (8 + l) (n * 8) (P .fits .holds), r .0, eq-eqb (gapSize m s i) n (r .1))
+      rw (le-leb (m .segment + l) (n * m .segment) (P .fits .holds), r .0, eq-eqb (gapSize m s i) n (r .1))
 
   pub told-from : (c x : ℕ) → x ≤ n → n < x + c → placeTold m s l k x c ≡ (call m (place l k) s) .1
   unfolding placeTold
@@ -74,9 +74,9 @@ module _ (m : Map) (s : Shadows) (l k i n : ℕ) (P : Picked m s l k i n) where
           lowest-none (at-size x) 0 N (λ j u v. false-of (at-size x j) (λ y. let w = P .least j x (size-fits x j (omega arith) y) .0 in omega arith)) in
           rw f (ih (omega arith) (omega arith))
 
-pub place-told : (m : Map) (s : Shadows) (l k : ℕ) → numberOf m (place l k) s ≡ 0 → (call m (place l k) s) .1 ≡ placeTold m s l k 0 (suc (heapSegments m))
+pub place-told : (m : FormMap) (s : Shadows) (l k : ℕ) → numberOf m (place l k) s ≡ 0 → (call m (place l k) s) .1 ≡ placeTold m s l k 0 (suc (heapSegments m))
 place-told m s l k e =
     let a = accepted m s l k e in
     let r = picked m s l k (a .0) (a .1) in
     let P = r .2 in
-    sym (told-from m s l k (r .0) (r .1) P (suc (heapSegments m)) 0 (omega arith) (omega (arith, P .fits .gap .inside)))
+    sym (told-from m s l k (r .0) (r .1) P (suc (heapSegments m)) 0 (omega arith) (omega (arith, gap-longest m s (r .0) (r .1) (P .fits .gap) .inside)))

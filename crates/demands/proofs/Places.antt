@@ -6,15 +6,16 @@ use mathlib.Core.List.{List}
 use mathlib.Core.Option.{Option, none, some}
 use Prim.Native.Nat.{ℕ, suc, _+_, _*_, _-_, _/_, _%_, _≤_, _<_, min}
 use native.Mathlib.Omega.{arith}
+use native.Mathlib.Nat.{div-add-mod', mod-lt, mul-le-mul-right, mul-mod-left, le-of-mul-le-mul-right, le-div-iff-mul-le, div-lt-iff-lt-mul}
 use lib.ListN.{length, take}
 use lib.Dec.{ltb, eqb}
 use borrow.Author.Tests.{le-leb, lt-ltb, ltb-true, eq-eqb, ne-eqb, eqb-false}
 use Rattle.number.specs.Parts.{at}
 use Rattle.number.proofs.TestLaws.{and-true, not-both, false-of}
 use Rattle.number.proofs.PartLaws.{zeros-at, zeros-all}
-use Rattle.map.specs.declared.Map.{Map}
+use Rattle.map.specs.FormMap.{FormMap}
 use Rattle.map.specs.Map.{goodMap}
-use Rattle.map.proofs.MapLaws.{good-true, true-within}
+use Rattle.map.proofs.MapLaws.{good-true, true-within, segment-least}
 use Rattle.plain.specs.declared.Beginning.{Beginning}
 use Rattle.plain.specs.declared.Beginning.the-variants.{Unwritten, Written}
 use Rattle.plain.specs.Areas.{segments, placeLength}
@@ -22,6 +23,7 @@ use Rattle.plain.specs.Gaps.{Gap, best, Among}
 use Rattle.plain.specs.Call.{begin, record-block, record-written, place, Answer, answer, number}
 use Rattle.plain.specs.Placing.{noneFits}
 use Rattle.plain.proofs.BestLaws.{best-some, best-none, take-among, take-whole, take-more, take-ascending}
+use Rattle.heap_layout.proofs.SegmentLaws.{aligned-eq}
 use Rattle.shadows.specs.Shadows.{Shadows, lengthsFit, shadowOps}
 use Rattle.shadows.proofs.ShadowLaws.{shadow-images}
 use Rattle.monitor_base.specs.Calls.{call}
@@ -35,81 +37,87 @@ use Rattle.demands.proofs.GapRuns.{Longest, longest-begins, begins-long
 use Rattle.demands.proofs.GapLists.{count-listed, looked-count, ascending, below-begins, below-not}
 use Rattle.demands.proofs.GapWords.{gapAtSegment, gaps-words, looked-among, among-looked, room-words, whole-segments, holds-need, need-holds}
 
-pub whole-segments-hold : WholeSegments
+pub whole-segments-hold : (m : FormMap) → WholeSegments m
 whole-segments-hold = whole-segments
 
 -- ---- a gap, by its bytes and by its segments
 
-module _ (m : Map) (s : Shadows) where
+module _ (m : FormMap) (s : Shadows) where
   abbrev N : ℕ
   N = heapSegments m
 
-  zero-bytes : (i : ℕ) → isZero s i ≡ true → ZeroFrom s (i * 8) 8
-  zero-bytes i e p x y = let q : i * 8 + (p - i * 8) ≡ p = omega arith in (rw q at (zeros-at (at (s .0)) (i * 8) 8 (p - i * 8) e (omega arith)))
+  whole : 0 < m .segment
+  whole = omega (arith, segment-least m)
 
-  bytes-zero : (i : ℕ) → ZeroFrom s (i * 8) 8 → isZero s i ≡ true
-  bytes-zero i h = zeros-all (at (s .0)) (i * 8) 8 (λ q l. h (i * 8 + q) (omega arith) (omega arith))
+  zero-bytes : (i : ℕ) → isZero m s i ≡ true → ZeroFrom s (i * m .segment) (m .segment)
+  zero-bytes i e p x y = let q : i * m .segment + (p - i * m .segment) ≡ p = omega arith in (rw q at (zeros-at (at (s .0)) (i * m .segment) (m .segment) (p - i * m .segment) e (omega arith)))
 
-  pub gap-longest : (i n : ℕ) → IsGap m s i n → Longest (isZero s) N i n
+  bytes-zero : (i : ℕ) → ZeroFrom s (i * m .segment) (m .segment) → isZero m s i ≡ true
+  bytes-zero i h = zeros-all (at (s .0)) (i * m .segment) (m .segment) (λ q l. h (i * m .segment + q) (omega arith) (omega arith))
+
+  pub gap-longest : (i n : ℕ) → IsGap m s i n → Longest (isZero m s) N i n
   gap-longest i n G =
       record {
         some = G .some;
-        inside = omega (arith, G .inside);
-        all = λ j x y. bytes-zero j (λ p u v. G .zero p (omega arith) (omega arith));
-        before = λ j e. false-of (isZero s j) (λ t. G .before j e (zero-bytes j t));
-        after = λ l. false-of (isZero s (i + n)) (λ t.
-            let q : (i + n) * 8 ≡ i * 8 + n * 8 = omega arith in G .after (omega arith) (rw q at (zero-bytes (i + n) t)));
+        inside = le-div-iff-mul-le {k = m .segment} {x = i + n} {y = m .«heap_size»} whole .1 (omega (arith, G .inside));
+        all = λ j x y. bytes-zero j (λ p u v. G .zero p (omega (arith, mul-le-mul-right (m .segment) x)) (omega (arith, mul-le-mul-right (m .segment) y)));
+        before = λ j e. false-of (isZero m s j) (λ t. G .before j e (zero-bytes j t));
+        after = λ l. false-of (isZero m s (i + n)) (λ t.
+            let q : (i + n) * m .segment ≡ i * m .segment + n * m .segment = omega arith in G .after (omega (arith, le-div-iff-mul-le {k = m .segment} {x = suc (i + n)} {y = m .«heap_size»} whole .0 l)) (rw q at (zero-bytes (i + n) t)));
       }
 
-  pub longest-gap : (i n : ℕ) → Longest (isZero s) N i n → IsGap m s i n
+  pub longest-gap : (i n : ℕ) → Longest (isZero m s) N i n → IsGap m s i n
   longest-gap i n R =
       record {
         some = R .some;
-        inside = omega (arith, R .inside);
-        zero = λ p x y. zero-bytes (p / 8) (R .all (p / 8) (omega arith) (omega arith)) p (omega arith) (omega arith);
-        before = λ j e h. not-both (isZero s j) (bytes-zero j h) (R .before j e);
+        inside = omega (arith, le-div-iff-mul-le {k = m .segment} {x = i + n} {y = m .«heap_size»} whole .0 (R .inside));
+        zero = λ p x y.
+            let lo = le-div-iff-mul-le {k = m .segment} {x = i} {y = p} whole .1 x in
+            let hi = div-lt-iff-lt-mul {k = m .segment} {x = p} {y = i + n} whole .1 (omega arith) in
+            zero-bytes (p / m .segment) (R .all (p / m .segment) lo hi) p (omega (arith, div-add-mod' p (m .segment))) (omega (arith, div-add-mod' p (m .segment), mod-lt p whole));
+        before = λ j e h. not-both (isZero m s j) (bytes-zero j h) (R .before j e);
         after = λ l h.
-            let q : i * 8 + n * 8 ≡ (i + n) * 8 = omega arith in not-both (isZero s (i + n)) (bytes-zero (i + n) (rw q at h)) (R .after (omega arith));
+            let q : i * m .segment + n * m .segment ≡ (i + n) * m .segment = omega arith in not-both (isZero m s (i + n)) (bytes-zero (i + n) (rw q at h)) (R .after (le-div-iff-mul-le {k = m .segment} {x = suc (i + n)} {y = m .«heap_size»} whole .1 (omega arith)));
       }
 
   -- a gap that is looked at
-  pub gap-looked : (k i n : ℕ) → IsGap m s i n → gapsBelow s i < k → (isLooked s k i ≡ true) × (gapSize m s i ≡ n) × (i < N)
+  pub gap-looked : (k i n : ℕ) → IsGap m s i n → gapsBelow m s i < k → (isLooked m s k i ≡ true) × (gapSize m s i ≡ n) × (i < N)
   gap-looked k i n G l =
-      let b = longest-begins (isZero s) N i n (gap-longest i n G) in
-      (rw (b .0, lt-ltb (gapsBelow s i) k l), b .1, b .2)
+      let b = longest-begins (isZero m s) N i n (gap-longest i n G) in
+      (rw (b .0, lt-ltb (gapsBelow m s i) k l), b .1, b .2)
 
-  pub looked-gap : (k i : ℕ) → i < N → isLooked s k i ≡ true → IsGap m s i (gapSize m s i) × (gapsBelow s i < k)
+  pub looked-gap : (k i : ℕ) → i < N → isLooked m s k i ≡ true → IsGap m s i (gapSize m s i) × (gapsBelow m s i < k)
   looked-gap k i l e =
-      let u = and-true (beginsRun (isZero s) i) (ltb (gapsBelow s i) k) e in
-      (longest-gap i (gapSize m s i) (begins-longest (isZero s) N i (u .0) l), ltb-true (gapsBelow s i) k (u .1))
+      let u = and-true (beginsRun (isZero m s) i) (ltb (gapsBelow m s i) k) e in
+      (longest-gap i (gapSize m s i) (begins-longest (isZero m s) N i (u .0) l), ltb-true (gapsBelow m s i) k (u .1))
 
 -- ---- the gaps of the definition
 
-pub gaps-exactly : GapsExactly
+pub gaps-exactly : (m : FormMap) → GapsExactly m
 gaps-exactly m s = (
   λ i n G.
-      let r = gap-looked m s (suc (gapsBelow s i)) i n G (omega arith) in
+      let r = gap-looked m s (suc (gapsBelow m s i)) i n G (omega arith) in
       subst (λ (x : ℕ). Among (gapFrom m i x) (gapsAt m s)) (r .1)
-      (take-among (suc (gapsBelow s i)) (gapsAt m s) (gapAtSegment m s i) (looked-among m s (suc (gapsBelow s i)) i (r .2) (r .0))),
+      (take-among (suc (gapsBelow m s i)) (gapsAt m s) (gapAtSegment m s i) (looked-among m s (suc (gapsBelow m s i)) i (r .2) (r .0))),
   λ g a.
       let r = among-looked m s (length (gapsAt m s)) g (subst (Among g) (sym (take-whole (gapsAt m s))) a) in
       (r .0, gapSize m s (r .0), looked-gap m s (length (gapsAt m s)) (r .0) (r .1) (r .2) .0, r .3),
-  rw (gaps-words m s) (ascending (isZero s) (m .«heap_start») (heapSegments m)),
+  rw (gaps-words m s) (ascending (m .segment) (isZero m s) (m .«heap_start») (heapSegments m) (whole m s)),
 )
 
-pub gaps-counted : GapsCounted
+pub gaps-counted : (m : FormMap) → GapsCounted m
 unfolding runsBelow
 gaps-counted m s = (
-  rw (gaps-words m s) (count-listed (isZero s) (m .«heap_start») (heapSegments m)),
+  rw (gaps-words m s) (count-listed (m .segment) (isZero m s) (m .«heap_start») (heapSegments m)),
   refl,
-  λ i n G. below-begins (isZero s) (m .«heap_start») (heapSegments m) i (longest-begins (isZero s) (heapSegments m) i n (gap-longest m s i n G) .0) ∙ omega arith,
-  λ i l h. below-not (isZero s) (m .«heap_start») (heapSegments m) i
-      (false-of (beginsRun (isZero s) i) (λ b. h (gapSize m s i) (longest-gap m s i (gapSize m s i) (begins-longest (isZero s) (heapSegments m) i b l)))),
+  λ i n G. below-begins (m .segment) (isZero m s) (m .«heap_start») (heapSegments m) i (longest-begins (isZero m s) (heapSegments m) i n (gap-longest m s i n G) .0) ∙ omega arith,
+  λ i l h. below-not (m .segment) (isZero m s) (m .«heap_start») (heapSegments m) i
+      (false-of (beginsRun (isZero m s) i) (λ b. h (gapSize m s i) (longest-gap m s i (gapSize m s i) (begins-longest (isZero m s) (heapSegments m) i b l)))),
 )
 
 -- ---- an accepted place
 
-module _ (m : Map) (s : Shadows) (l k : ℕ) where
+module _ (m : FormMap) (s : Shadows) (l k : ℕ) where
   abbrev looked : List Gap
   looked = take k (shadowOps m .gaps s)
 
@@ -117,24 +125,24 @@ module _ (m : Map) (s : Shadows) (l k : ℕ) where
     pub good : goodMap m ≡ true
     pub fit : lengthsFit m s ≡ true
     pub bytes : l ≢ 0
-    pub picked : best (placeLength 8 l) looked ≡ some g
-    pub says : call m (place l k) s ≡ (s, answer 0 (g .start + 8) (length looked) (g .bytes - placeLength 8 l) 0)
+    pub picked : best (placeLength (m .segment) l) looked ≡ some g
+    pub says : call m (place l k) s ≡ (s, answer 0 (g .start + m .segment) (length looked) (g .bytes - placeLength (m .segment) l) 0)
 
-  answers : goodMap m ≡ true → lengthsFit m s ≡ true → l ≢ 0 → (g : Gap) → best (placeLength 8 l) looked ≡ some g → Answered g
+  answers : goodMap m ≡ true → lengthsFit m s ≡ true → l ≢ 0 → (g : Gap) → best (placeLength (m .segment) l) looked ≡ some g → Answered g
   unfolding call
   answers ok fit n g e = record { good = ok; fit = fit; bytes = n; picked = e; says = rw (ok, fit, ne-eqb l 0 n, e) }
 
   pub accepted : numberOf m (place l k) s ≡ 0 → (g : Gap) × Answered g
   accepted e =
       let r = accepted-exactly m (place l k) s .1 e in
-      go (best (placeLength 8 l) looked) refl (not-false (goodMap m) (r .0)) (not-false (lengthsFit m s) (r .1 .0)) (eqb-false l 0 (r .1 .1 .0))
+      go (best (placeLength (m .segment) l) looked) refl (not-false (goodMap m) (r .0)) (not-false (lengthsFit m s) (r .1 .0)) (eqb-false l 0 (r .1 .1 .0))
       (room-words m s l k ∙ r .1 .1 .1 .1 .1 .1 .1 .1 .1 .1 .0)
     where
       not-false : (b : Bool) → not b ≡ false → b ≡ true
       not-false true e = refl
       not-false false e = sym e
 
-      go : (o : Option Gap) → best (placeLength 8 l) looked ≡ o → goodMap m ≡ true → lengthsFit m s ≡ true → l ≢ 0 → noneFits 8 l k (shadowOps m .gaps s) ≡ false → (g : Gap) × Answered g
+      go : (o : Option Gap) → best (placeLength (m .segment) l) looked ≡ o → goodMap m ≡ true → lengthsFit m s ≡ true → l ≢ 0 → noneFits (m .segment) l k (shadowOps m .gaps s) ≡ false → (g : Gap) × Answered g
       go none q ok fit n f = absurd (not-both true refl (rw q at f))
       go (some g) q ok fit n f = (g, answers ok fit n g q)
 
@@ -142,7 +150,7 @@ module _ (m : Map) (s : Shadows) (l k : ℕ) where
   pub record Picked (i n : ℕ) : Type 0 where
     pub fits : Fits m s l k i n
     pub least : (j p : ℕ) → Fits m s l k j p → (n ≤ p) × (n ≡ p → i ≤ j)
-    pub says : call m (place l k) s ≡ (s, answer 0 (m .«heap_start» + i * 8 + 8) (min k (gapsBelow s (heapSegments m))) (n * 8 - placeBytes l) 0)
+    pub says : call m (place l k) s ≡ (s, answer 0 (m .«heap_start» + i * m .segment + m .segment) (min k (gapsBelow m s (heapSegments m))) (n * m .segment - placeBytes m l) 0)
 
   pub fits-among : (j p : ℕ) → Fits m s l k j p → Among (gapFrom m j p) looked
   fits-among j p F =
@@ -152,37 +160,37 @@ module _ (m : Map) (s : Shadows) (l k : ℕ) where
   pub picked : (g : Gap) → Answered g → (i : ℕ) × (n : ℕ) × Picked i n
   unfolding placeLength
   picked g A =
-      let C = best-some (placeLength 8 l) looked g (A .picked) in
+      let C = best-some (placeLength (m .segment) l) looked g (A .picked) in
       let r = among-looked m s k g (C .among) in
       let h = looked-gap m s k (r .0) (r .1) (r .2) in
       let n = gapSize m s (r .0) in
-      let f : placeLength 8 l ≤ n * 8 = subst (λ (x : Gap). placeLength 8 l ≤ x .bytes) (r .3) (C .fits) in (
+      let f : placeLength (m .segment) l ≤ n * m .segment = subst (λ (x : Gap). placeLength (m .segment) l ≤ x .bytes) (r .3) (C .fits) in (
         r .0,
         n,
         record {
-          fits = record { gap = h .0; looked = h .1; holds = need-holds l n f };
+          fits = record { gap = h .0; looked = h .1; holds = need-holds m l n f };
           least = λ j p F.
               let a = fits-among j p F in
-              let w = holds-need l p (F .holds) in
-              let b : n * 8 ≤ p * 8 = subst (λ (x : Gap). x .bytes ≤ p * 8) (r .3) (C .least (gapFrom m j p) a w) in (
-                omega arith,
+              let w = holds-need m l p (F .holds) in
+              let b : n * m .segment ≤ p * m .segment = subst (λ (x : Gap). x .bytes ≤ p * m .segment) (r .3) (C .least (gapFrom m j p) a w) in (
+                le-of-mul-le-mul-right {m = n} {n = p} {k = m .segment} b (whole m s),
                 λ e.
-                    let u : g .bytes ≡ p * 8 = ap (λ (x : Gap). x .bytes) (r .3) ∙ ap (λ (x : ℕ). x * 8) e in
+                    let u : g .bytes ≡ p * m .segment = ap (λ (x : Gap). x .bytes) (r .3) ∙ ap (λ (x : ℕ). x * m .segment) e in
                     let v = C .lowest (take-ascending k (shadowOps m .gaps s) (gaps-exactly m s .2)) (gapFrom m j p) a w u in
-                    let z : g .start ≡ m .«heap_start» + r .0 * 8 = ap (λ (x : Gap). x .start) (r .3) in
-                    omega arith,
+                    let z : g .start ≡ m .«heap_start» + r .0 * m .segment = ap (λ (x : Gap). x .start) (r .3) in
+                    le-of-mul-le-mul-right {m = r .0} {n = j} {k = m .segment} (omega arith) (whole m s),
               );
           says =
               A .says
-              ∙ ap (λ (x : Gap). (s, answer 0 (x .start + 8) (length looked) (x .bytes - placeLength 8 l) 0)) (r .3)
-              ∙ ap (λ (c : ℕ). (s, answer 0 (m .«heap_start» + r .0 * 8 + 8) c (n * 8 - placeBytes l) 0)) count;
+              ∙ ap (λ (x : Gap). (s, answer 0 (x .start + m .segment) (length looked) (x .bytes - placeLength (m .segment) l) 0)) (r .3)
+              ∙ ap (λ (c : ℕ). (s, answer 0 (m .«heap_start» + r .0 * m .segment + m .segment) c (n * m .segment - placeBytes m l) 0)) count;
         },
       )
     where
-      count : length looked ≡ min k (gapsBelow s (heapSegments m))
-      count = rw (gaps-words m s) (looked-count (isZero s) (m .«heap_start») (heapSegments m) k)
+      count : length looked ≡ min k (gapsBelow m s (heapSegments m))
+      count = rw (gaps-words m s) (looked-count (m .segment) (isZero m s) (m .«heap_start») (heapSegments m) k)
 
-pub place-chooses : PlaceChooses
+pub place-chooses : (m : FormMap) → PlaceChooses m
 place-chooses m s l k e =
     let a = accepted m s l k e in
     let r = picked m s l k (a .0) (a .1) in
@@ -190,46 +198,46 @@ place-chooses m s l k e =
 
 -- ---- 14
 
-pub place-refused : PlaceRefused
+pub place-refused : (m : FormMap) → PlaceRefused m
 unfolding call
-place-refused m s ok fit l k n = (λ h. refuse h (best (placeLength 8 l) (looked m s l k)) refl, λ i p F. accept i p F (best (placeLength 8 l) (looked m s l k)) refl)
+place-refused m s ok fit l k n = (λ h. refuse h (best (placeLength (m .segment) l) (looked m s l k)) refl, λ i p F. accept i p F (best (placeLength (m .segment) l) (looked m s l k)) refl)
   where
     some-byte : l ≢ 0
     some-byte = omega arith
 
-    refuse : ((i p : ℕ) → Fits m s l k i p → ⊥) → (o : Option Gap) → best (placeLength 8 l) (looked m s l k) ≡ o → call m (place l k) s ≡ (s, answer 14 0 0 0 0)
+    refuse : ((i p : ℕ) → Fits m s l k i p → ⊥) → (o : Option Gap) → best (placeLength (m .segment) l) (looked m s l k) ≡ o → call m (place l k) s ≡ (s, answer 14 0 0 0 0)
     refuse h none q = rw (ok, fit, ne-eqb l 0 some-byte, q)
     refuse h (some g) q = let r = picked m s l k g (answers m s l k ok fit some-byte g q) in absurd (h (r .0) (r .1) (r .2 .fits))
 
-    accept : (i p : ℕ) → Fits m s l k i p → (o : Option Gap) → best (placeLength 8 l) (looked m s l k) ≡ o → numberOf m (place l k) s ≡ 0
-    accept i p F none q = absurd (best-none (placeLength 8 l) (looked m s l k) q (gapFrom m i p) (fits-among m s l k i p F) (holds-need l p (F .holds)))
+    accept : (i p : ℕ) → Fits m s l k i p → (o : Option Gap) → best (placeLength (m .segment) l) (looked m s l k) ≡ o → numberOf m (place l k) s ≡ 0
+    accept i p F none q = absurd (best-none (placeLength (m .segment) l) (looked m s l k) q (gapFrom m i p) (fits-among m s l k i p F) (holds-need m l p (F .holds)))
     accept i p F (some g) q = ap (λ (r : Shadows × Answer). number (r .1)) (answers m s l k ok fit some-byte g q .says)
 
 -- ---- a larger budget
 
-pub larger-budget : LargerBudget
+pub larger-budget : (m : FormMap) → LargerBudget m
 larger-budget m s l k k′ h e =
     let a = accepted m s l k e in
     let A = a .1 in
-    let C = best-some (placeLength 8 l) (looked m s l k) (a .0) (A .picked) in
+    let C = best-some (placeLength (m .segment) l) (looked m s l k) (a .0) (A .picked) in
     let more = take-more k k′ (shadowOps m .gaps s) (a .0) h (C .among) in
-    go A more (C .fits) (best (placeLength 8 l) (looked m s l k′)) refl
+    go A more (C .fits) (best (placeLength (m .segment) l) (looked m s l k′)) refl
   where
-    go : {g : Gap} → Answered m s l k g → Among g (looked m s l k′) → placeLength 8 l ≤ g .bytes → (o : Option Gap) → best (placeLength 8 l) (looked m s l k′) ≡ o
+    go : {g : Gap} → Answered m s l k g → Among g (looked m s l k′) → placeLength (m .segment) l ≤ g .bytes → (o : Option Gap) → best (placeLength (m .segment) l) (looked m s l k′) ≡ o
         → (numberOf m (place l k′) s ≡ 0) × (surplusOf ((call m (place l k′) s) .1) ≤ surplusOf ((call m (place l k) s) .1))
-    go {g} A more f none q = absurd (best-none (placeLength 8 l) (looked m s l k′) q g more f)
+    go {g} A more f none q = absurd (best-none (placeLength (m .segment) l) (looked m s l k′) q g more f)
     go {g} A more f (some d) q =
         let B = answers m s l k′ (A .good) (A .fit) (A .bytes) d q in
-        let D = best-some (placeLength 8 l) (looked m s l k′) d q in (
+        let D = best-some (placeLength (m .segment) l) (looked m s l k′) d q in (
           ap (λ (r : Shadows × Answer). number (r .1)) (B .says),
           rw (ap (λ (r : Shadows × Answer). surplusOf (r .1)) (B .says), ap (λ (r : Shadows × Answer). surplusOf (r .1)) (A .says)) (omega (arith, D .least g more f)),
         )
 
 -- ---- record of the base and length that place answers
 
-module _ (m : Map) (s : Shadows) (l k i n : ℕ) (ok : goodMap m ≡ true) (fit : lengthsFit m s ≡ true) (some : l ≢ 0) (F : Fits m s l k i n) where
+module _ (m : FormMap) (s : Shadows) (l k i n : ℕ) (ok : goodMap m ≡ true) (fit : lengthsFit m s ≡ true) (some : l ≢ 0) (F : Fits m s l k i n) where
   abbrev base : ℕ
-  base = m .«heap_start» + i * 8 + 8
+  base = m .«heap_start» + i * m .segment + m .segment
 
   in-heap : inHeap m base ≡ true
   in-heap = true-within (m .«heap_start») (m .«heap_size») base (omega arith) (omega (arith, F .holds, F .gap .inside))
@@ -238,31 +246,38 @@ module _ (m : Map) (s : Shadows) (l k i n : ℕ) (ok : goodMap m ≡ true) (fit 
   in-place =
       rw (
         in-heap,
-        le-leb (m .«heap_start» + 8) base (omega arith),
+        le-leb (m .«heap_start» + m .segment) base (omega arith),
         le-leb (base + l) (m .«heap_start» + m .«heap_size») (omega (arith, F .holds, F .gap .inside)),
       )
 
-  aligned : eqb (base % 8) 0 ≡ true
-  aligned = eq-eqb (base % 8) 0 (omega (arith, good-true m ok .heapStart8))
+  aligned : eqb (base % m .segment) 0 ≡ true
+  aligned =
+      let G : ℕ = m .segment in
+      let g : 0 < G = omega (arith, segment-least m) in
+      let e = aligned-eq g (m .«heap_start») (good-true m ok .heapStartWhole) in
+      let q : base ≡ (m .«heap_start» / G + i + 1) * G = omega arith in
+      eq-eqb (base % G) 0 (ap (λ (x : ℕ). x % G) q ∙ mul-mod-left (m .«heap_start» / G + i + 1) G)
 
   all-zero : placeZero m s base l ≡ true
+  unfolding placeLength
   all-zero =
-      let e : base - m .«heap_start» - 8 ≡ i * 8 = omega arith in
+      let e : base - m .«heap_start» - m .segment ≡ i * m .segment = omega arith in
+      let need = holds-need m l n (F .holds) in
       rw (in-heap, e)
-      (zeros-all (at (s .0)) (i * 8) (8 + segments 8 l * 8) (λ q h. F .gap .zero (i * 8 + q) (omega arith) (omega (arith, whole-segments l .1, F .holds))))
+      (zeros-all (at (s .0)) (i * m .segment) (m .segment + segments (m .segment) l * m .segment) (λ q h. F .gap .zero (i * m .segment + q) (omega arith) (omega (arith, need))))
 
   accepts : (how : Beginning) → isMisplaced m (begin how base l) ≡ false → numberOf m (begin how base l) s ≡ 0
   accepts how e =
       accepted-exactly m (begin how base l) s .0
       (rw ok, (rw fit, (ne-eqb l 0 some, (e, (rw (in-heap, aligned), (rw all-zero, (refl, (refl, (refl, (refl, (refl, tt)))))))))))
 
-pub placed-recorded : PlacedRecorded
+pub placed-recorded : (m : FormMap) → PlacedRecorded m
 placed-recorded m s l k b c u e =
     let a = accepted m s l k (ap number e) in
     let A = a .1 in
     let r = picked m s l k (a .0) A in
     let i = r .0 in
-    let q : m .«heap_start» + i * 8 + 8 ≡ b = ap first (sym (ap (λ (x : Shadows × Answer). x .1) (r .2 .says)) ∙ e) in
+    let q : m .«heap_start» + i * m .segment + m .segment ≡ b = ap first (sym (ap (λ (x : Shadows × Answer). x .1) (r .2 .says)) ∙ e) in
     let F = r .2 .fits in
     let v = in-place m s l k i (r .1) (A .good) (A .fit) (A .bytes) F in (
       subst (λ (x : ℕ). numberOf m (record-block x l) s ≡ 0) q (accepts m s l k i (r .1) (A .good) (A .fit) (A .bytes) F Unwritten v),
@@ -274,5 +289,5 @@ placed-recorded m s l k b c u e =
 
 -- ---- the plain list
 
-pub on-its-own-image : OnItsOwnImage
+pub on-its-own-image : (m : FormMap) → OnItsOwnImage m
 on-its-own-image m ok bs P = sym (shadow-images m ok .image-gaps bs P)

@@ -1,12 +1,13 @@
 -- What every reading that gives a block keeps: see `BlocksRead` of specs/Told.antt. Assumes nothing.
 use mathlib.Core.Path.{_≡_, sym, ap, _∙_}
 use mathlib.Core.Bool.{Bool, true, false}
-use Prim.Native.Nat.{ℕ, _+_, _*_, _-_, _/_, _%_, _≤_, _<_}
+use Prim.Native.Nat.{ℕ, _+_, _-_, _/_, _%_, _≤_, _<_}
 use native.Mathlib.Omega.{arith}
-use Rattle.number.specs.Bits.{bit, bitOf}
+use Rattle.number.specs.Bits.{bit}
 use Rattle.number.specs.Parts.{at}
 use Rattle.number.proofs.TestLaws.{Test, is-true, is-false, test, not-both}
 use Rattle.number.proofs.BitLaws.{bit-test}
+use Rattle.map.specs.FormMap.{FormMap}
 use Rattle.map.proofs.MapLaws.{within-true}
 use Rattle.plain.specs.Reading.{Reading, nothing, block, damaged}
 use Rattle.plain.specs.Lift.{readingUp}
@@ -21,7 +22,7 @@ use Rattle.demands.specs.Told.{BlocksRead}
 -- ---- by addresses
 
 -- a block that is read at an address is read at its position, from the area's start on
-lowered : (z b l o w : ℕ) (t : Bool) (r : Reading) → readingUp z r ≡ block b l o w t → (c : ℕ) × (r ≡ block c l o w t) × (b ≡ z + c)
+pub lowered : (z b l o w : ℕ) (t : Bool) (r : Reading) → readingUp z r ≡ block b l o w t → (c : ℕ) × (r ≡ block c l o w t) × (b ≡ z + c)
 lowered z b l o w t nothing e = absurd (let x : _≡_ {A = ℕ} 0 1 = cc in omega arith)
 lowered z b l o w t (block c k i v u) e =
     let el : k ≡ l = cc in
@@ -31,25 +32,22 @@ lowered z b l o w t (block c k i v u) e =
     let eb : z + c ≡ b = cc in (c, rw (el, eo, ew, et), sym eb)
 lowered z b l o w t damaged e = absurd (let x : _≡_ {A = ℕ} 0 1 = cc in omega arith)
 
-pub blocks-read : BlocksRead
+pub blocks-read : (m : FormMap) → BlocksRead m
 blocks-read m s a b l o w t e = go (test (inHeap m a)) (test (inStack m a))
   where
     go : Test (inHeap m a) → Test (inStack m a)
         → (b + o ≡ a) × (o < l) × (w ≡ writtenAt m s a) × (bit t ≡ literalAt m s a)
-        × (inHeap m a ≡ true → (m .«heap_start» + 8 ≤ b) × (b + l ≤ m .«heap_start» + m .«heap_size»))
+        × (inHeap m a ≡ true → (m .«heap_start» + m .segment ≤ b) × (b + l ≤ m .«heap_start» + m .«heap_size»))
         × (inHeap m a ≡ false → (m .«stack_start» ≤ b) × (b + l ≤ m .«stack_start» + m .«stack_size»))
     go (is-true h) k =
         let u = within-true (m .«heap_start») (m .«heap_size») a h in
         let p : ℕ = a - m .«heap_start» in
-        let r = lowered (m .«heap_start») b l o w t (heapReading 4 8 (m .«heap_size») (at (s .0)) p) (rw h at e) in
-        let T = heap.reading-told 4 8 (m .«heap_size») (at (s .0)) p (r .0) l o w t (r .1) in
-        let x : p / 8 * 8 + (4 + p % 8 / 8) ≡ p / 8 * 8 + 4 = omega arith in
-        let y : p % 8 % 8 ≡ p % 8 = omega arith in
-        let v : w ≡ bitOf (at (s .0) (p / 8 * 8 + 4)) (p % 8) = rw (x, y) at (T .written) in
+        let r = lowered (m .«heap_start») b l o w t (heapReading (m .width) (m .segment) (m .«heap_size») (at (s .0)) p) (rw h at e) in
+        let T = heap.reading-told (m .width) (m .segment) (m .«heap_size») (at (s .0)) p (r .0) l o w t (r .1) in
         let eb : b ≡ m .«heap_start» + r .0 = r .2 in (
           omega (arith, T .low, T .offset),
           T .inside,
-          rw h v,
+          rw h (T .written),
           rw (h, T .mark),
           λ i. (omega (arith, T .room), omega (arith, T .fits)),
           λ i. absurd (not-both (inHeap m a) h i),

@@ -9,7 +9,7 @@ use borrow.Author.Tests.{eq-eqb, ne-eqb, eqb-true, not-false}
 use Rattle.number.specs.Parts.{over}
 use Rattle.number.proofs.TestLaws.{false-of, not-both}
 use Rattle.number.proofs.PartLaws.{length-over}
-use Rattle.map.specs.declared.Map.{Map}
+use Rattle.map.specs.FormMap.{FormMap}
 use Rattle.map.specs.Map.{goodMap}
 use Rattle.plain.specs.Areas.{segments, placeLength, mapRules}
 use Rattle.plain.specs.Block.{Block, hasBase}
@@ -38,18 +38,18 @@ use Rattle.demands.proofs.OverLaws.{at-written}
 
 -- ---- what follows from arguments and map
 
-stack-inside : (m : Map) (a : ℕ) → inStack m a ≡ true → mapRules m .inside a ≡ true
+stack-inside : (m : FormMap) (a : ℕ) → inStack m a ≡ true → mapRules m .inside a ≡ true
 stack-inside m a i = true-or (inHeap m a) (inStack m a) i
 
 -- an address of the stack is not 0
-pub free-of-stack : FreeOfStack
+pub free-of-stack : (m : FormMap) → FreeOfStack m
 unfolding call plainStep
 free-of-stack m ok zero i = absurd (not-both (mapRules m .inside 0) (stack-inside m 0 i) (null-inside m ok))
 free-of-stack m ok (suc x) i =
     let k : isStack (mapRules m) (suc x) ≡ true = stack-words m ok (suc x) ∙ i in
     (λ s fit. rw (ok, fit, k, stack-inside m (suc x) i), λ bs. rw (k, stack-inside m (suc x) i))
 
-pub remove-elsewhere : RemoveElsewhere
+pub remove-elsewhere : (m : FormMap) → RemoveElsewhere m
 unfolding call plainStep
 remove-elsewhere m ok a i =
     let k : isStack (mapRules m) a ≡ false = stack-words m ok a ∙ i in
@@ -57,7 +57,7 @@ remove-elsewhere m ok a i =
 
 -- ---- by the reading
 
-module _ (m : Map) (s : Shadows) (ok : goodMap m ≡ true) (fit : lengthsFit m s ≡ true) (a : ℕ) where
+module _ (m : FormMap) (s : Shadows) (ok : goodMap m ≡ true) (fit : lengthsFit m s ≡ true) (a : ℕ) where
   abbrev by : Reading → Shadows × Answer
   by r = unless (firstOf ((8, isDamaged r) ∷ (7, not (isFirst r)) ∷ [])) s (shadowOps m .erase s a (lengthOf r), done)
 
@@ -85,14 +85,14 @@ module _ (m : Map) (s : Shadows) (ok : goodMap m ≡ true) (fit : lengthsFit m s
   zeroed : (p l : ℕ) (h : List ℕ) → Zeroed p l h (over p l (λ q. 0) h)
   zeroed p l h = (length-over p l (λ q. 0) h, at-written p l (λ q. 0) h (λ q x y. refl))
 
-pub free-by-reading : FreeByReading
+pub free-by-reading : (m : FormMap) → FreeByReading m
 unfolding heapErase placeLength
 free-by-reading m s ok fit a h = (
   refuses m s ok fit a _ (freed m s ok fit a h),
-  λ b l w t e. rw (freed m s ok fit a h ∙ ap (by m s ok fit a) e, h) (refl, zeroed m s ok fit a (a - m .«heap_start» - 8) (8 + segments 8 l * 8) (s .0), refl),
+  λ b l w t e. rw (freed m s ok fit a h ∙ ap (by m s ok fit a) e, h) (refl, zeroed m s ok fit a (a - m .«heap_start» - m .segment) (m .segment + segments (m .segment) l * m .segment) (s .0), refl),
 )
 
-pub remove-by-reading : RemoveByReading
+pub remove-by-reading : (m : FormMap) → RemoveByReading m
 unfolding stackErase
 remove-by-reading m s ok fit a i = (
   refuses m s ok fit a _ (removed m s ok fit a i),
@@ -103,7 +103,7 @@ remove-by-reading m s ok fit a i = (
 -- ---- each in its area
 
 -- an accepted call alone alters anything
-unaltered : {X : Type 0} (m : Map) (c : Call) (s : Shadows) (part : Shadows → X)
+unaltered : {X : Type 0} (m : FormMap) (c : Call) (s : Shadows) (part : Shadows → X)
     → (numberOf m c s ≡ 0 → part (shadowsAfter (mapRules m) (shadowOps m) c s) ≡ part s) → part ((call m c s) .0) ≡ part s
 unfolding call
 unaltered m c s part h = go (firstOf (refusals m c s)) (number-first m c s)
@@ -119,17 +119,17 @@ in-heap true k o n = refl
 in-heap false true o n = absurd (true≢false n)
 in-heap false false o n = absurd (true≢false o)
 
-freed-heap : (m : Map) (x : ℕ) (s : Shadows) → numberOf m (free (suc x)) s ≡ 0 → inHeap m (suc x) ≡ true
+freed-heap : (m : FormMap) (x : ℕ) (s : Shadows) → numberOf m (free (suc x)) s ≡ 0 → inHeap m (suc x) ≡ true
 freed-heap m x s e =
     let h = accepted-exactly m (free (suc x)) s .1 e in
     in-heap (inHeap m (suc x)) (inStack m (suc x)) (h .1 .1 .1 .0) (h .1 .1 .1 .1 .1 .1 .0)
 
-removed-stack : (m : Map) (a : ℕ) (s : Shadows) → numberOf m (remove a) s ≡ 0 → inHeap m a ≡ false
+removed-stack : (m : FormMap) (a : ℕ) (s : Shadows) → numberOf m (remove a) s ≡ 0 → inHeap m a ≡ false
 removed-stack m a s e =
     let h = accepted-exactly m (remove a) s .1 e in
     false-of (inHeap m a) (λ t. apart-words m (not-false (goodMap m) (h .0)) a t (not-false (inStack m a) (h .1 .1 .1 .0)))
 
-pub each-its-area : EachItsArea
+pub each-its-area : (m : FormMap) → EachItsArea m
 each-its-area m a s = (frees a, unaltered m (remove a) s (λ t. t .0) (λ e. rw (removed-stack m a s e)))
   where
     frees : (a : ℕ) → (call m (free a) s) .0 .1 ≡ s .1
@@ -138,7 +138,7 @@ each-its-area m a s = (frees a, unaltered m (remove a) s (λ t. t .0) (λ e. rw 
 
 -- ---- on every image
 
-module _ (m : Map) (ok : goodMap m ≡ true) (bs : List Block) (P : Placed (mapRules m) 0 bs) where
+module _ (m : FormMap) (ok : goodMap m ≡ true) (bs : List Block) (P : Placed (mapRules m) 0 bs) where
   -- the number of a call is that of the list
   listed : (c : Call) → numberOf m c (image m bs) ≡ firstOf (byRules (mapRules m) c ++ byList (mapRules m) c bs)
   listed c = ap (λ (r : Shadows × Answer). number (r .1)) (on-every-image m ok bs P c) ∙ plain.number-first (mapRules m) c bs
@@ -179,8 +179,8 @@ module _ (m : Map) (ok : goodMap m ≡ true) (bs : List Block) (P : Placed (mapR
       let t = plain.remove-accepted (mapRules m) a bs (sym (listed (remove a)) ∙ e) in
       (sym (stack-words m ok a) ∙ t .0, any-base a (t .1))
 
-pub free-exactly : FreeExactly
+pub free-exactly : (m : FormMap) → FreeExactly m
 free-exactly m ok bs P a = (⊎-elim (λ z. rw z (listed m ok bs P (free 0))) (free-accepted m ok bs P a), free-told m ok bs P a)
 
-pub remove-exactly : RemoveExactly
+pub remove-exactly : (m : FormMap) → RemoveExactly m
 remove-exactly m ok bs P a = (remove-accepted m ok bs P a, remove-told m ok bs P a)

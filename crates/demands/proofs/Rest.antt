@@ -5,6 +5,7 @@ use mathlib.Core.Bool.{Bool, true, false, cond}
 use mathlib.Core.List.{List, [], _∷_}
 use Prim.Native.Nat.{ℕ, zero, suc, _+_, _*_, _-_, _/_, _%_, _≤_, _<_}
 use native.Mathlib.Omega.{arith}
+use lib.Arith.{digits-div, digits-mod}
 use lib.ListN.{length, take, drop, length-take}
 use lib.Dec.{leb, ltb, eqb}
 use borrow.Author.Tests.{lt-ltb, le-ltb, ltb-true, ltb-false}
@@ -12,6 +13,7 @@ use Rattle.number.specs.Bits.{ofBits}
 use Rattle.number.specs.Parts.{at, tab}
 use Rattle.number.proofs.TestLaws.{Test, is-true, is-false, test, cond-both}
 use Rattle.number.proofs.PartLaws.{at-tab, at-tab-out}
+use Rattle.map.specs.FormMap.{FormMap}
 use Rattle.plain.specs.Block.{Block, len, contains, isWritten}
 use Rattle.plain.specs.Layer.{layer}
 use Rattle.plain.specs.Lift.{downs}
@@ -31,43 +33,45 @@ drop-past zero (x ∷ xs) h = absurd (omega arith)
 drop-past (suc n) [] h = refl
 drop-past (suc n) (x ∷ xs) h = drop-past n xs (omega arith)
 
--- a segment has the marks of eight bytes at most
-abbrev Eight : Cell → Type 0
-Eight free = Unit {0}
-Eight (header L) = Unit {0}
-Eight (segment d ms) = length ms ≤ 8
+module _ (W G : ℕ) where
+  -- a segment has the marks of its own bytes at most
+  abbrev Few : Cell → Type 0
+  Few free = Unit {0}
+  Few (header L) = Unit {0}
+  Few (segment d ms) = length ms ≤ G
 
-own-eight : (b : Block) (s : ℕ) → Eight (own 8 b s)
-unfolding own
-own-eight b s =
-    let d : ℕ = (s - b .base / 8) * 8 in
-    cond-both Eight (eqb (suc s) (b .base / 8)) (header (len b)) (segment d (take 8 (drop d (b .marks)))) tt (simp length-take (omega arith))
+  own-few : (b : Block) (s : ℕ) → Few (own G b s)
+  unfolding own
+  own-few b s =
+      let d : ℕ = (s - b .base / G) * G in
+      cond-both Few (eqb (suc s) (b .base / G)) (header (len b)) (segment d (take G (drop d (b .marks)))) tt (simp length-take (omega arith))
 
-cell-eight : (bs : List Block) (s : ℕ) → Eight (segmentOf 8 bs s)
-unfolding layer
-cell-eight [] s = tt
-cell-eight (b ∷ bs) s = cond-both Eight (covers 8 b s) (own 8 b s) (segmentOf 8 bs s) (own-eight b s) (cell-eight bs s)
+  cell-few : (bs : List Block) (s : ℕ) → Few (segmentOf G bs s)
+  unfolding layer
+  cell-few [] s = tt
+  cell-few (b ∷ bs) s = cond-both Few (covers G b s) (own G b s) (segmentOf G bs s) (own-few b s) (cell-few bs s)
 
-cell-rest : (c : Cell) → Eight c → (i j : ℕ) → i < 4 → 5 ≤ j → cellByte 4 c i ≢ 0 → cellByte 4 c j ≡ 0
-unfolding cellByte ofBits
-cell-rest free e i j h k n = refl
-cell-rest (header L) e i j h k n = absurd (n (rw (lt-ltb i 4 h)))
-cell-rest (segment d ms) e i j h k n = rw (le-ltb j 4 (omega arith), drop-past (8 * (j - 4)) ms (omega arith))
+  cell-rest : (c : Cell) → Few c → (i j : ℕ) → i < W → W + (G + 7) / 8 ≤ j → cellByte W c i ≢ 0 → cellByte W c j ≡ 0
+  unfolding cellByte ofBits
+  cell-rest free e i j h k n = refl
+  cell-rest (header L) e i j h k n = absurd (n (rw (lt-ltb i W h)))
+  cell-rest (segment d ms) e i j h k n = rw (le-ltb j W (omega arith), drop-past (8 * (j - W)) ms (omega arith))
 
-heap-rest : (size : ℕ) (bs : List Block) (k i j : ℕ) → i < 4 → 5 ≤ j → j < 8 → at (heapImage 4 8 size bs) (k * 8 + i) ≢ 0 → at (heapImage 4 8 size bs) (k * 8 + j) ≡ 0
-unfolding heapImage heapByte
-heap-rest size bs k i j h u v n = go (test (ltb (k * 8 + j) size))
-  where
-    byte : (r : ℕ) → r < 8 → cellByte 4 (segmentOf 8 bs ((k * 8 + r) / 8)) ((k * 8 + r) % 8) ≡ cellByte 4 (segmentOf 8 bs k) r
-    byte r x = let a : (k * 8 + r) / 8 ≡ k = omega arith in let b : (k * 8 + r) % 8 ≡ r = omega arith in rw (a, b)
+  heap-rest : (size : ℕ) (bs : List Block) (k i j : ℕ) → i < W → W + (G + 7) / 8 ≤ j → j < G → at (heapImage W G size bs) (k * G + i) ≢ 0
+      → at (heapImage W G size bs) (k * G + j) ≡ 0
+  unfolding heapImage heapByte
+  heap-rest size bs k i j h u v n = go (test (ltb (k * G + j) size))
+    where
+      byte : (r : ℕ) → r < G → cellByte W (segmentOf G bs ((k * G + r) / G)) ((k * G + r) % G) ≡ cellByte W (segmentOf G bs k) r
+      byte r x = rw (digits-div k x, digits-mod k x)
 
-    go : Test (ltb (k * 8 + j) size) → at (tab 0 size (heapByte 4 8 bs)) (k * 8 + j) ≡ 0
-    go (is-true t) =
-        let x = ltb-true (k * 8 + j) size t in
-        at-tab size (k * 8 + j) (heapByte 4 8 bs) x ∙ byte j v
-        ∙ cell-rest (segmentOf 8 bs k) (cell-eight bs k) i j h u
-        (λ z. n (at-tab size (k * 8 + i) (heapByte 4 8 bs) (omega arith) ∙ byte i (omega arith) ∙ z))
-    go (is-false t) = at-tab-out size (k * 8 + j) (heapByte 4 8 bs) (ltb-false (k * 8 + j) size t)
+      go : Test (ltb (k * G + j) size) → at (tab 0 size (heapByte W G bs)) (k * G + j) ≡ 0
+      go (is-true t) =
+          let x = ltb-true (k * G + j) size t in
+          at-tab size (k * G + j) (heapByte W G bs) x ∙ byte j v
+          ∙ cell-rest (segmentOf G bs k) (cell-few bs k) i j h u
+          (λ z. n (at-tab size (k * G + i) (heapByte W G bs) (omega arith) ∙ byte i (omega arith) ∙ z))
+      go (is-false t) = at-tab-out size (k * G + j) (heapByte W G bs) (ltb-false (k * G + j) size t)
 
 -- ---- the stack
 
@@ -107,8 +111,8 @@ stack-rest size bs q f = go (test (ltb q size))
         at-tab size q (secondaryByte bs) x ∙ byte-rest bs q (rw (at-tab size q (primaryByte bs) x) at f)
     go (is-false t) = at-tab-out size q (secondaryByte bs) (ltb-false q size t)
 
-pub rest-zero : RestZero
+pub rest-zero : (m : FormMap) → RestZero m
 rest-zero m bs = (
-  heap-rest (m .«heap_size») (downs (m .«heap_start») (only (heapRules 8 (m .«heap_start») (m .«heap_size») .inside) bs)),
+  heap-rest (m .width) (m .segment) (m .«heap_size») (downs (m .«heap_start») (only (heapRules (m .segment) (m .«heap_start») (m .«heap_size») .inside) bs)),
   stack-rest (m .«stack_size») (downs (m .«stack_start») (only (stackRules (m .«stack_start») (m .«stack_size») .inside) bs)),
 )

@@ -13,8 +13,8 @@ use Rattle.number.specs.Bits.{bit, bitOf}
 use Rattle.number.specs.Parts.{at}
 use Rattle.number.proofs.TestLaws.{Test, is-true, is-false, test, and-true, in-true, false-of}
 use Rattle.number.proofs.BitLaws.{bit-test, bitOf-lt}
-use Rattle.map.specs.declared.Map.{Map}
-use Rattle.map.proofs.MapLaws.{Good, good-true, within-true, true-within}
+use Rattle.map.specs.FormMap.{FormMap}
+use Rattle.map.proofs.MapLaws.{Good, good-true, within-true, true-within, segment-least}
 use Rattle.plain.specs.declared.Beginning.{Beginning}
 use Rattle.plain.specs.declared.Beginning.the-variants.{Unwritten, Written, Literal}
 use Rattle.plain.specs.Areas.{segments, mapRules}
@@ -23,22 +23,24 @@ use Rattle.plain.specs.Blocks.{find}
 use Rattle.plain.specs.Rules.{Placed}
 use Rattle.plain.specs.Call.{begin}
 use Rattle.plain.specs.Reading.{says}
+use Rattle.plain.proofs.AreaLaws.{segments-up}
 use Rattle.plain.proofs.BlockLaws.{true-contains}
 use Rattle.plain.proofs.StampedLaws.{Stands}
 use Rattle.heap_layout.specs.Ops.{heapMarked}
 use Rattle.stack_layout.specs.Ops.{stackMarked}
 use Rattle.shadows.specs.Shadows.{Shadows, heap, primary, shadowOps, image}
 use Rattle.monitor_base.specs.Calls.{call}
-use Rattle.demands.specs.Addresses.{inHeap, inStack}
+use Rattle.demands.specs.Addresses.{inHeap, inStack, bitPosition}
 use Rattle.demands.specs.Demand1.{numberOf}
 use Rattle.demands.specs.Alters.{inPlace, writtenAt, literalAt, BytesStart}
 use Rattle.demands.proofs.Begun as begun
 use Rattle.demands.proofs.Demand2.{not-both-areas, image-listed}
+use Rattle.demands.proofs.MarkLaws.{aligned-sub, bits-among}
 use Rattle.demands.proofs.Readings.{blocks-read}
 use Rattle.demands.proofs.Alters.{record-stamps}
 
 -- the written bit of an address, and the test of it that calls use
-pub written-marked : (m : Map) (s : Shadows) (x : ℕ) → writtenAt m s x ≡ bit (shadowOps m .marked s x)
+pub written-marked : (m : FormMap) (s : Shadows) (x : ℕ) → writtenAt m s x ≡ bit (shadowOps m .marked s x)
 unfolding heapMarked stackMarked
 written-marked m s x = go (test (inHeap m x))
   where
@@ -47,12 +49,12 @@ written-marked m s x = go (test (inHeap m x))
 
     go : Test (inHeap m x) → writtenAt m s x ≡ bit (shadowOps m .marked s x)
     go (is-true h) =
-        let k : p / 8 * 8 + (4 + p % 8 / 8) ≡ p / 8 * 8 + 4 = omega arith in
-        let j : p % 8 % 8 ≡ p % 8 = omega arith in
-        rw (h, k, j) (sym (bit-test (bitOf (at (s .0) (p / 8 * 8 + 4)) (p % 8)) (bitOf-lt (at (s .0) (p / 8 * 8 + 4)) (p % 8))))
+        let k : ℕ = bitPosition m p in
+        let j : ℕ = p % m .segment % 8 in
+        rw h (sym (bit-test (bitOf (at (s .0) k) j) (bitOf-lt (at (s .0) k) j)))
     go (is-false h) = rw h (sym (bit-test (at (s .1 .0) (x - m .«stack_start») % 2) (mod-lt (at (s .1 .0) (x - m .«stack_start»)) (lit< tt))))
 
-module _ (m : Map) (w : Beginning) (b l : ℕ) (s : Shadows) (e : numberOf m (begin w b l) s ≡ 0) (x : ℕ) (from : b ≤ x) (to : x < b + l) where
+module _ (m : FormMap) (w : Beginning) (b l : ℕ) (s : Shadows) (e : numberOf m (begin w b l) s ≡ 0) (x : ℕ) (from : b ≤ x) (to : x < b + l) where
   A : begun.Accepted m w b l s e
   A = begun.accepted m w b l s e
 
@@ -89,18 +91,23 @@ module _ (m : Map) (w : Beginning) (b l : ℕ) (s : Shadows) (e : numberOf m (be
           → (writtenAt m ((call m (begin w b l) s) .0) x ≡ writtenAt m (image m (B ∷ [])) x)
           × (literalAt m ((call m (begin w b l) s) .0) x ≡ literalAt m (image m (B ∷ [])) x)
       go (is-true h) =
-          let f : (leb (m .«heap_start» + 8) b && leb (b + l) (m .«heap_start» + m .«heap_size») && true) ≡ true = rw h at (A .fits) in
-          let u = and-true (leb (m .«heap_start» + 8) b && leb (b + l) (m .«heap_start» + m .«heap_size»)) true f in
-          let v = and-true (leb (m .«heap_start» + 8) b) (leb (b + l) (m .«heap_start» + m .«heap_size»)) (u .0) in
-          let lo : m .«heap_start» + 8 ≤ b = leb-true (m .«heap_start» + 8) b (v .0) in
+          let f : (leb (m .«heap_start» + m .segment) b && leb (b + l) (m .«heap_start» + m .«heap_size») && true) ≡ true = rw h at (A .fits) in
+          let u = and-true (leb (m .«heap_start» + m .segment) b && leb (b + l) (m .«heap_start» + m .«heap_size»)) true f in
+          let v = and-true (leb (m .«heap_start» + m .segment) b) (leb (b + l) (m .«heap_start» + m .«heap_size»)) (u .0) in
+          let lo : m .«heap_start» + m .segment ≤ b = leb-true (m .«heap_start» + m .segment) b (v .0) in
           let hi : b + l ≤ m .«heap_start» + m .«heap_size» = leb-true (b + l) (m .«heap_start» + m .«heap_size») (v .1) in
-          let al : b % 8 ≡ 0 = eqb-true (b % 8) 0 (rw h at (A .aligned)) in
+          let al : b % m .segment ≡ 0 = eqb-true (b % m .segment) 0 (rw h at (A .aligned)) in
           let hx : inHeap m x ≡ true = true-within (m .«heap_start») (m .«heap_size») x (omega arith) (omega arith) in
-          let q : ℕ = (x - m .«heap_start») / 8 * 8 + 4 in
+          let G : ℕ = m .segment in
+          let some : 0 < G = omega (arith, segment-least m) in
+          let c : ℕ = b - m .«heap_start» in
+          let q : ℕ = bitPosition m (x - m .«heap_start») in
+          let at-c = aligned-sub G b (m .«heap_start») some (omega arith) al (g .heapStartWhole) in
+          let i = bits-among (m .width) G (m .wide) (m .two) c (segments G l) (x - m .«heap_start») at-c (omega arith) (omega (arith, segments-up G some l)) in
           let pl : inPlace m b l (heap q) ≡ true =
-          rw h (in-true (b - m .«heap_start» - 8) (b - m .«heap_start» - 8 + (8 + segments 8 l * 8)) q (omega (arith, g .heapStart8)) (omega (arith, g .heapStart8))) in
+          rw h (in-true (c - G) (c - G + (G + segments G l * G)) q (omega (arith, i .0)) (omega (arith, i .1))) in
           let r = record-stamps m w b l s e (heap q) in
-          rw hx (ap (λ (y : ℕ). bitOf y ((x - m .«heap_start») % 8)) (r ∙ rw pl), refl)
+          rw hx (ap (λ (y : ℕ). bitOf y ((x - m .«heap_start») % m .segment % 8)) (r ∙ rw pl), refl)
       go (is-false h) =
           let f : (leb (b + l) (m .«stack_start» + m .«stack_size») && inStack m b) ≡ true = rw h at (A .fits) in
           let u = and-true (leb (b + l) (m .«stack_start» + m .«stack_size»)) (inStack m b) f in
@@ -114,7 +121,7 @@ module _ (m : Map) (w : Beginning) (b l : ℕ) (s : Shadows) (e : numberOf m (be
           let r : at ((call m (begin w b l) s) .0 .1 .0) q ≡ at ((image m (B ∷ [])) .1 .0) q = record-stamps m w b l s e (primary q) ∙ rw pl in
           rw hx (ap (λ (y : ℕ). y % 2) r, ap (λ (y : ℕ). y / 2 % 2) r)
 
-pub bytes-start : BytesStart
+pub bytes-start : (m : FormMap) → BytesStart m
 bytes-start m b l s x from to = (λ e. starts Unwritten e, λ e. starts Written e, λ e. starts Literal e)
   where
     starts : (w : Beginning) → numberOf m (begin w b l) s ≡ 0

@@ -8,7 +8,7 @@ use lib.Dec.{leb, eqb}
 use borrow.Author.Tests.{ne-eqb, not-false}
 use Rattle.number.proofs.TestLaws.{and-false-r}
 use Rattle.number.proofs.BitLaws.{bit-back}
-use Rattle.map.specs.declared.Map.{Map}
+use Rattle.map.specs.FormMap.{FormMap}
 use Rattle.map.specs.Map.{goodMap}
 use Rattle.plain.specs.Areas.{mapRules}
 use Rattle.plain.specs.Block.{Block}
@@ -52,7 +52,7 @@ initialised-words n nothing t = refl
 initialised-words n (block b l o w k) t = ap (λ (x : ℕ). answer 0 x 0 0 0) (bit-words (leb (o + n) l && t))
 initialised-words n damaged t = refl
 
-each-words : (m : Map) (s : Shadows) (n a : ℕ) → rangeMarked (shadowOps m) s a n ≡ eachOne (writtenAt m s) a n
+each-words : (m : FormMap) (s : Shadows) (n a : ℕ) → rangeMarked (shadowOps m) s a n ≡ eachOne (writtenAt m s) a n
 unfolding rangeMarked eachOne
 each-words m s zero a = refl
 each-words m s (suc n) a = rw (written-marked m s a, bit-back (shadowOps m .marked s a), each-words m s n (suc a))
@@ -72,14 +72,14 @@ next-words rd (suc n) a e = go (rd a) e (next-words rd n (suc a))
     go damaged e ih = absurd (true≢false e)
 
 -- what an accepted call answers, by its definition
-answered : (m : Map) (c : Call) (s : Shadows) → numberOf m c s ≡ 0 → (call m c s) .1 ≡ shadowAnswer (mapRules m) (shadowOps m) c s
+answered : (m : FormMap) (c : Call) (s : Shadows) → numberOf m c s ≡ 0 → (call m c s) .1 ≡ shadowAnswer (mapRules m) (shadowOps m) c s
 unfolding call
 answered m c s e = let z : firstOf (refusals m c s) ≡ 0 = sym (number-first m c s) ∙ e in rw z
 
 -- ---- audit
 
 -- a placed list's totals are those that its own readings tell
-listed-totals : (m : Map) → goodMap m ≡ true → (bs : List Block) → Placed (mapRules m) 0 bs → totalsTold m (lookup bs) ≡ totalsOf m bs
+listed-totals : (m : FormMap) → goodMap m ≡ true → (bs : List Block) → Placed (mapRules m) 0 bs → totalsTold m (lookup bs) ≡ totalsOf m bs
 listed-totals m ok bs P =
     let G = map-sound m ok in
     rw (
@@ -90,7 +90,7 @@ listed-totals m ok bs P =
     )
 
 -- whatever tells the readings of every image, tells the totals of what audit accepts
-module _ (m : Map) (tells : Shadows → ℕ → Reading) where
+module _ (m : FormMap) (tells : Shadows → ℕ → Reading) where
   audit-by : (goodMap m ≡ true → (bs : List Block) → Placed (mapRules m) 0 bs → (a : ℕ) → tells (image m bs) a ≡ lookup bs a)
       → (s : Shadows) → numberOf m audit s ≡ 0 → (call m audit s) .1 ≡ totalsTold m (tells s)
   audit-by h s e =
@@ -99,15 +99,15 @@ module _ (m : Map) (tells : Shadows → ℕ → Reading) where
       let q : tells s ≡ lookup bs = ap tells (r .1 .2) ∙ fun-ext (h (r .0) bs (r .1 .1)) in
       ap (λ (x : Shadows × Answer). x .1) (r .1 .3) ∙ sym (listed-totals m (r .0) bs (r .1 .1)) ∙ sym (ap (totalsTold m) q)
 
-audited : (m : Map) (s : Shadows) → numberOf m audit s ≡ 0 → (call m audit s) .1 ≡ totalsTold m (readingAt m s)
+audited : (m : FormMap) (s : Shadows) → numberOf m audit s ≡ 0 → (call m audit s) .1 ≡ totalsTold m (readingAt m s)
 audited m s e = audit-by m (readingAt m) (image-listed m) s e
 
-pub totals-told : TotalsTold
+pub totals-told : (m : FormMap) → TotalsTold m
 totals-told m s e = audit-by m (toldAt m) (image-told m) s e
 
 -- ---- every call
 
-pub answers-read : AnswersRead
+pub answers-read : (m : FormMap) → AnswersRead m
 answers-read m clear s e = answered m clear s e
 answers-read m (begin w b l) s e = answered m (begin w b l) s e
 answers-read m (free x) s e = answered m (free x) s e

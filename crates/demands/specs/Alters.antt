@@ -1,14 +1,14 @@
 -- Demand 1, what the calls that write alter, on any shadows, images or not: where record, free and written are accepted, every byte afterwards.
 -- (What remove leaves is `RemoveByReading` of Removals.antt, what clear leaves `ClearedRun` of Demand3.antt.) Proved in proofs/Alters.antt. Assumes nothing.
 use mathlib.Core.Path.{_≡_}
-use mathlib.Core.Logic.{_≢_, _⊎_}
+use mathlib.Core.Logic.{_⊎_}
 use mathlib.Core.Bool.{Bool, true, false, cond, not, _&&_}
 use mathlib.Core.List.{[], _∷_}
 use Prim.Native.Nat.{ℕ, suc, _+_, _*_, _-_, _/_, _%_, _≤_, _<_}
 use lib.ListN.{length}
 use Rattle.number.specs.Bits.{bitOf}
 use Rattle.number.specs.Parts.{at, inPart}
-use Rattle.map.specs.declared.Map.{Map}
+use Rattle.map.specs.FormMap.{FormMap}
 use Rattle.plain.specs.declared.Beginning.{Beginning}
 use Rattle.plain.specs.Areas.{segments}
 use Rattle.plain.specs.Block.{begun}
@@ -16,67 +16,68 @@ use Rattle.plain.specs.Call.{Call, begin, record-block, record-written, record-
 use Rattle.plain.specs.ShadowCalls.{lengthOf}
 use Rattle.shadows.specs.Shadows.{Shadows, Place, heap, primary, secondary, byteAt, image}
 use Rattle.monitor_base.specs.Calls.{call}
-use Rattle.demands.specs.Addresses.{inHeap, outside, readingAt}
+use Rattle.demands.specs.Addresses.{inHeap, outside, bitBytes, bitPosition, readingAt}
 use Rattle.demands.specs.Numbers.{placeZero}
 use Rattle.demands.specs.Demand1.{numberOf}
 
 -- every call, accepted or refused, leaves each shadow as long as it was
-abbrev pub LengthsKept : Type 0
-LengthsKept =
-    (m : Map) (c : Call) (s : Shadows)
+abbrev pub LengthsKept : FormMap → Type 0
+LengthsKept m =
+    (c : Call) (s : Shadows)
     → (length ((call m c s) .0 .0) ≡ length (s .0)) × (length ((call m c s) .0 .1 .0) ≡ length (s .1 .0)) × (length ((call m c s) .0 .1 .1) ≡ length (s .1 .1))
 
 -- the byte is one of the place of a block: "header and segments; primary and secondary of the range"
-abbrev pub inPlace : Map → (base length : ℕ) → Place → Bool
-inPlace m b l (heap q) = inHeap m b && inPart (b - m .«heap_start» - 8) (8 + segments 8 l * 8) q
+abbrev pub inPlace : FormMap → (base length : ℕ) → Place → Bool
+inPlace m b l (heap q) = inHeap m b && inPart (b - m .«heap_start» - m .segment) (m .segment + segments (m .segment) l * m .segment) q
 inPlace m b l (primary q) = not (inHeap m b) && inPart (b - m .«stack_start») l q
 inPlace m b l (secondary q) = not (inHeap m b) && inPart (b - m .«stack_start») l q
 
 -- 6, "some shadow byte of the place (header and segments; primary and secondary of the range) is not zero": what the row goes by (`placeZero`)
 -- holds exactly if every byte of the place is zero
-abbrev pub ZeroExactly : Type 0
-ZeroExactly =
-    (m : Map) (b l : ℕ) (s : Shadows)
+abbrev pub ZeroExactly : FormMap → Type 0
+ZeroExactly m =
+    (b l : ℕ) (s : Shadows)
     → (placeZero m s b l ≡ true → (q : Place) → inPlace m b l q ≡ true → byteAt s q ≡ 0)
     × (((q : Place) → inPlace m b l q ≡ true → byteAt s q ≡ 0) → placeZero m s b l ≡ true)
 
 -- "record (base, length)": the bytes of the place become those that the layout gives for the block as it begins, and no other byte is altered
-abbrev pub RecordStamps : Type 0
-RecordStamps =
-    (m : Map) (h : Beginning) (b l : ℕ) (s : Shadows) → numberOf m (begin h b l) s ≡ 0 → (q : Place)
+abbrev pub RecordStamps : FormMap → Type 0
+RecordStamps m =
+    (h : Beginning) (b l : ℕ) (s : Shadows) → numberOf m (begin h b l) s ≡ 0 → (q : Place)
     → byteAt ((call m (begin h b l) s) .0) q ≡ cond (inPlace m b l q) (byteAt (image m (begun h b l ∷ [])) q) (byteAt s q)
 
 -- "free (base): zeroes the shadow of the block and of its header", and alters no other byte
-abbrev pub FreeZeroes : Type 0
-FreeZeroes =
-    (m : Map) (x : ℕ) (s : Shadows) → numberOf m (free (suc x)) s ≡ 0 → (q : Place)
+abbrev pub FreeZeroes : FormMap → Type 0
+FreeZeroes m =
+    (x : ℕ) (s : Shadows) → numberOf m (free (suc x)) s ≡ 0 → (q : Place)
     → byteAt ((call m (free (suc x)) s) .0) q ≡ cond (inPlace m (suc x) (lengthOf (readingAt m s (suc x))) q) 0 (byteAt s q)
 
--- the written bit of an address: in the heap "bit j for byte j of the segment" in its byte 4, in the stack bit 0 of the primary byte
-abbrev pub writtenAt : Map → Shadows → (address : ℕ) → ℕ
+-- the written bit of an address: in the heap bit j of byte W + k of the segment for its byte 8 k + j (`bitPosition`), in the stack bit 0 of the primary
+-- byte
+abbrev pub writtenAt : FormMap → Shadows → (address : ℕ) → ℕ
 writtenAt m s x =
-    cond (inHeap m x) (bitOf (at (s .0) ((x - m .«heap_start») / 8 * 8 + 4)) ((x - m .«heap_start») % 8)) (at (s .1 .0) (x - m .«stack_start») % 2)
+    cond (inHeap m x) (bitOf (at (s .0) (bitPosition m (x - m .«heap_start»))) ((x - m .«heap_start») % m .segment % 8)) (at (s .1 .0) (x - m .«stack_start») % 2)
 
 -- bit 1 of an address: that of its primary byte in the stack; the heap has none, "heap blocks always may" be written
-abbrev pub literalAt : Map → Shadows → (address : ℕ) → ℕ
+abbrev pub literalAt : FormMap → Shadows → (address : ℕ) → ℕ
 literalAt m s x = cond (inHeap m x) 0 (at (s .1 .0) (x - m .«stack_start») / 2 % 2)
 
 -- "written (address, n): n bytes inside one block become written; only their written bits change": the n bits are 1, that of every other address
 -- of an area is as before, and so is whatever is no written bit
-abbrev pub WrittenMarks : Type 0
-WrittenMarks =
-    (m : Map) (a n : ℕ) (s : Shadows) → numberOf m (written a n) s ≡ 0
+abbrev pub WrittenMarks : FormMap → Type 0
+WrittenMarks m =
+    (a n : ℕ) (s : Shadows) → numberOf m (written a n) s ≡ 0
     → ((x : ℕ) → a ≤ x → x < a + n → writtenAt m ((call m (written a n) s) .0) x ≡ 1)
     × ((x : ℕ) → outside m x ≡ false → (x < a) ⊎ (a + n ≤ x) → writtenAt m ((call m (written a n) s) .0) x ≡ writtenAt m s x)
-    × ((q : ℕ) → q % 8 ≢ 4 → at ((call m (written a n) s) .0 .0) q ≡ at (s .0) q)
+    × ((q : ℕ) → (q % m .segment < m .width) ⊎ (m .width + bitBytes m ≤ q % m .segment) → at ((call m (written a n) s) .0 .0) q ≡ at (s .0) q)
     × ((q : ℕ) → at ((call m (written a n) s) .0 .1 .0) q / 2 ≡ at (s .1 .0) q / 2)
     × ((call m (written a n) s) .0 .1 .1 ≡ s .1 .1)
 
 -- record: "All bytes start unwritten"; S-1: "a block whose bytes all count as written"; S-5: "all written, bit 1 of each primary byte set": where
 -- it is accepted, the written bit and bit 1 of each byte of the block are 0 and 0 after the first, 1 and 0 after the second, 1 and 1 after the third
-abbrev pub BytesStart : Type 0
-BytesStart =
-    (m : Map) (b l : ℕ) (s : Shadows) (x : ℕ) → b ≤ x → x < b + l
+abbrev pub BytesStart : FormMap → Type 0
+BytesStart m =
+    (b l : ℕ) (s : Shadows) (x : ℕ) → b ≤ x → x < b + l
     → (numberOf m (record-block b l) s ≡ 0
     → (writtenAt m ((call m (record-block b l) s) .0) x ≡ 0) × (literalAt m ((call m (record-block b l) s) .0) x ≡ 0))
     × (numberOf m (record-written b l) s ≡ 0

@@ -7,6 +7,7 @@ use mathlib.Core.List.{List, [], _∷_}
 use Prim.Native.Nat.{ℕ, _+_, _*_, _-_}
 use Rattle.plain.specs.Call.{Call, record-block, record-literal, free, remove, written, ask, valid-write, valid-read, initialised, next, audit, Answer, answer, refusal, done}
 use Rattle.demands.specs.GivenShadows.{Given, allGiven}
+use Rattle.demands.specs.Samples.{sampleMap}
 use Rattle.demands.specs.ByteSamples.{numbers, disagreeing}
 
 -- ---- readings
@@ -218,4 +219,6 @@ callsOnDamage =
 
 -- every sample holds
 abbrev pub DamageSamplesHold : Type 0
-DamageSamplesHold = (allGiven readings ≡ true) × (allGiven numbers ≡ true) × (allGiven callsOnDamage ≡ true) × (allGiven disagreeing ≡ true)
+DamageSamplesHold =
+    (allGiven sampleMap readings ≡ true) × (allGiven sampleMap numbers ≡ true) × (allGiven sampleMap callsOnDamage ≡ true)
+    × (allGiven sampleMap disagreeing ≡ true)

@@ -9,7 +9,7 @@ use mathlib.Core.List.{List, [], _∷_}
 use Prim.Native.Nat.{ℕ, _≤_}
 use lib.Dec.{eqb}
 use Rattle.number.specs.Parts.{Each}
-use Rattle.map.specs.declared.Map.{Map}
+use Rattle.map.specs.FormMap.{FormMap}
 use Rattle.map.specs.Map.{goodMap}
 use Rattle.plain.specs.Call.{Call, clear, begin, free, remove, written, ask, valid, initialised, next, audit, place, answer, number, Refusal, firstOf}
 use Rattle.shadows.specs.Shadows.{Shadows, lengthsFit}
@@ -17,7 +17,7 @@ use Rattle.monitor_base.specs.Calls.{call}
 use Rattle.demands.specs.Numbers.{isEmpty, isMisplaced, freesStack, damageMet, rows}
 
 -- the number of a call
-abbrev pub numberOf : Map → Call → Shadows → ℕ
+abbrev pub numberOf : FormMap → Call → Shadows → ℕ
 numberOf m c s = number ((call m c s) .1)
 
 -- none of the conditions holds
@@ -25,8 +25,8 @@ abbrev pub NoneHolds : List Refusal → Type 0
 NoneHolds rs = Each (λ (r : Refusal). r .1 ≡ false) rs
 
 -- "A refusal returns the number with all other fields zero and alters no shadow byte"
-abbrev pub RefusedAltersNothing : Type 0
-RefusedAltersNothing = (m : Map) (c : Call) (s : Shadows) → numberOf m c s ≢ 0 → call m c s ≡ (s, answer (numberOf m c s) 0 0 0 0)
+abbrev pub RefusedAltersNothing : FormMap → Type 0
+RefusedAltersNothing m = (c : Call) (s : Shadows) → numberOf m c s ≢ 0 → call m c s ≡ (s, answer (numberOf m c s) 0 0 0 0)
 
 -- ask, valid, valid_read, initialised, next, audit and place alter no shadow byte, accepted or refused
 abbrev pub isQuestion : Call → Bool
@@ -42,16 +42,16 @@ isQuestion (next a) = true
 isQuestion audit = true
 isQuestion (place l k) = true
 
-abbrev pub QuestionsAlterNothing : Type 0
-QuestionsAlterNothing = (m : Map) (c : Call) (s : Shadows) → isQuestion c ≡ true → (call m c s) .0 ≡ s
+abbrev pub QuestionsAlterNothing : FormMap → Type 0
+QuestionsAlterNothing m = (c : Call) (s : Shadows) → isQuestion c ≡ true → (call m c s) .0 ≡ s
 
 -- the number is that of the first row of the table that holds, and 0 where none does
-abbrev pub ByTheTable : Type 0
-ByTheTable = (m : Map) (c : Call) (s : Shadows) → numberOf m c s ≡ firstOf (rows m c s)
+abbrev pub ByTheTable : FormMap → Type 0
+ByTheTable m = (c : Call) (s : Shadows) → numberOf m c s ≡ firstOf (rows m c s)
 
 -- "An accepted call gives 0 as its number": exactly if no row holds
-abbrev pub AcceptedExactly : Type 0
-AcceptedExactly = (m : Map) (c : Call) (s : Shadows) → (NoneHolds (rows m c s) → numberOf m c s ≡ 0) × (numberOf m c s ≡ 0 → NoneHolds (rows m c s))
+abbrev pub AcceptedExactly : FormMap → Type 0
+AcceptedExactly m = (c : Call) (s : Shadows) → (NoneHolds (rows m c s) → numberOf m c s ≡ 0) × (numberOf m c s ≡ 0 → NoneHolds (rows m c s))
 
 -- "The lowest number wins", but 8 before 7, which is given "never where 8 holds", and S-7's 15 "after 4 and ahead of 7 and 8": 15 has the turn of 7,
 -- and 7 the turn 9, which is no call's number; every other number has its own
@@ -59,8 +59,8 @@ abbrev pub turn : ℕ → ℕ
 turn k = cond (eqb k 15) 7 (cond (eqb k 7) 9 k)
 
 -- of every row that holds, the number's turn is at most that row's
-abbrev pub LowestWins : Type 0
-LowestWins = (m : Map) (c : Call) (s : Shadows) → Each (λ (r : Refusal). r .1 ≡ true → turn (numberOf m c s) ≤ turn (r .0)) (rows m c s)
+abbrev pub LowestWins : FormMap → Type 0
+LowestWins m = (c : Call) (s : Shadows) → Each (λ (r : Refusal). r .1 ≡ true → turn (numberOf m c s) ≤ turn (r .0)) (rows m c s)
 
 -- one of the rows is so
 abbrev pub SomeRow : (Refusal → Type 0) → List Refusal → Type 0
@@ -68,21 +68,21 @@ SomeRow P [] = ⊥
 SomeRow P (r ∷ rs) = P r ⊎ SomeRow P rs
 
 -- "Returned | When": a number other than 0 is that of a row that holds
-abbrev pub ItsRowHolds : Type 0
-ItsRowHolds =
-    (m : Map) (c : Call) (s : Shadows) → numberOf m c s ≢ 0
+abbrev pub ItsRowHolds : FormMap → Type 0
+ItsRowHolds m =
+    (c : Call) (s : Shadows) → numberOf m c s ≢ 0
     → SomeRow (λ (r : Refusal). (r .0 ≡ numberOf m c s) × (r .1 ≡ true)) (rows m c s)
 
 -- "7 never where 8 holds": where the number is 7, 8's condition is false
-abbrev pub SevenWithoutEight : Type 0
-SevenWithoutEight = (m : Map) (c : Call) (s : Shadows) → numberOf m c s ≡ 7 → damageMet m c s ≡ false
+abbrev pub SevenWithoutEight : FormMap → Type 0
+SevenWithoutEight m = (c : Call) (s : Shadows) → numberOf m c s ≡ 7 → damageMet m c s ≡ false
 
 -- "Damage is reported by number 8": 8 only where its condition holds
-abbrev pub EightOnlyThere : Type 0
-EightOnlyThere = (m : Map) (c : Call) (s : Shadows) → numberOf m c s ≡ 8 → damageMet m c s ≡ true
+abbrev pub EightOnlyThere : FormMap → Type 0
+EightOnlyThere m = (c : Call) (s : Shadows) → numberOf m c s ≡ 8 → damageMet m c s ≡ true
 
 -- and always there, unless 1, 2, 3, 4 or 15 comes first (5 and 6 are record's alone, which has no 8)
-abbrev pub EightThere : Type 0
-EightThere =
-    (m : Map) (c : Call) (s : Shadows) → goodMap m ≡ true → lengthsFit m s ≡ true → isEmpty c ≡ false → isMisplaced m c ≡ false
+abbrev pub EightThere : FormMap → Type 0
+EightThere m =
+    (c : Call) (s : Shadows) → goodMap m ≡ true → lengthsFit m s ≡ true → isEmpty c ≡ false → isMisplaced m c ≡ false
     → freesStack m c ≡ false → damageMet m c s ≡ true → numberOf m c s ≡ 8

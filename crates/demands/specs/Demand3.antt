@@ -7,7 +7,7 @@ use mathlib.Core.Logic.{_≢_}
 use mathlib.Core.Bool.{true}
 use mathlib.Core.List.{List, [], _∷_}
 use Rattle.number.specs.Parts.{Each}
-use Rattle.map.specs.declared.Map.{Map}
+use Rattle.map.specs.FormMap.{FormMap}
 use Rattle.map.specs.Map.{goodMap}
 use Rattle.plain.specs.Block.{Block}
 use Rattle.plain.specs.Rules.{Placed}
@@ -19,45 +19,45 @@ use Rattle.shadows.specs.Shadows.{Shadows, lengthsFit, zeroShadows, image}
 use Rattle.monitor_base.specs.Calls.{call}
 
 -- the answer and every shadow byte after each call, each call on what the one before left
-abbrev pub shadowRun : Map → Shadows → List Call → List (Answer × Shadows)
+abbrev pub shadowRun : FormMap → Shadows → List Call → List (Answer × Shadows)
 shadowRun m s cs = run (λ (x : Shadows). x) (call m) s cs
 
 -- the answer of the plain list, and its image, after each call
-abbrev pub plainRun : Map → List Block → List Call → List (Answer × Shadows)
+abbrev pub plainRun : FormMap → List Block → List Call → List (Answer × Shadows)
 plainRun m bs cs = run (image m) (plainStep (mapRules m)) bs cs
 
 -- "after each call": a run begins with the answer and the shadows of its first call, and goes on from what that left; so does the list's
-abbrev pub RunsEachCall : Type 0
-RunsEachCall =
-    (m : Map) (c : Call) (cs : List Call)
+abbrev pub RunsEachCall : FormMap → Type 0
+RunsEachCall m =
+    (c : Call) (cs : List Call)
     → ((s : Shadows) → shadowRun m s (c ∷ cs) ≡ ((call m c s) .1, (call m c s) .0) ∷ shadowRun m ((call m c s) .0) cs)
     × ((bs : List Block)
     → plainRun m bs (c ∷ cs)
     ≡ ((plainStep (mapRules m) c bs) .1, image m ((plainStep (mapRules m) c bs) .0)) ∷ plainRun m ((plainStep (mapRules m) c bs) .0) cs)
 
 -- "Compared are the number, every answer field and, after each call, every shadow byte": one claim about the whole list of calls
-abbrev pub WholeRun : Type 0
-WholeRun = (m : Map) → goodMap m ≡ true → (cs : List Call) → shadowRun m (zeroShadows m) cs ≡ plainRun m [] cs
+abbrev pub WholeRun : FormMap → Type 0
+WholeRun m = goodMap m ≡ true → (cs : List Call) → shadowRun m (zeroShadows m) cs ≡ plainRun m [] cs
 
 -- "8 never does" arise: no answer has number 8
-abbrev pub NoDamage : Type 0
-NoDamage =
-    (m : Map) → goodMap m ≡ true → (cs : List Call) → Each (λ (r : Answer × Shadows). number (r .0) ≢ 8) (shadowRun m (zeroShadows m) cs)
+abbrev pub NoDamage : FormMap → Type 0
+NoDamage m =
+    goodMap m ≡ true → (cs : List Call) → Each (λ (r : Answer × Shadows). number (r .0) ≢ 8) (shadowRun m (zeroShadows m) cs)
 
 -- "clear: all shadows zero", whatever they held: shadows of the right lengths become cleared ones, so that a run that begins with clear is the
 -- plain list's too, from any bytes
-abbrev pub ClearedRun : Type 0
-ClearedRun =
-    (m : Map) → goodMap m ≡ true → (s : Shadows) → lengthsFit m s ≡ true
+abbrev pub ClearedRun : FormMap → Type 0
+ClearedRun m =
+    goodMap m ≡ true → (s : Shadows) → lengthsFit m s ≡ true
     → (call m clear s ≡ (zeroShadows m, answer 0 0 0 0 0)) × ((cs : List Call) → shadowRun m s (clear ∷ cs) ≡ plainRun m [] (clear ∷ cs))
 
 -- demand 2, the rest: on the image of every placeable list, reached by calls or not, every call does what the list does
-abbrev pub OnEveryImage : Type 0
-OnEveryImage =
-    (m : Map) → goodMap m ≡ true → (bs : List Block) → Placed (mapRules m) 0 bs → (c : Call)
+abbrev pub OnEveryImage : FormMap → Type 0
+OnEveryImage m =
+    goodMap m ≡ true → (bs : List Block) → Placed (mapRules m) 0 bs → (c : Call)
     → call m c (image m bs) ≡ (image m ((plainStep (mapRules m) c bs) .0), (plainStep (mapRules m) c bs) .1)
 
 -- and keeps it placed: the live blocks stand "in address order", each fits and is aligned, and no footprints meet, after every call
-abbrev pub StaysPlaced : Type 0
-StaysPlaced =
-    (m : Map) → goodMap m ≡ true → (bs : List Block) → Placed (mapRules m) 0 bs → (c : Call) → Placed (mapRules m) 0 ((plainStep (mapRules m) c bs) .0)
+abbrev pub StaysPlaced : FormMap → Type 0
+StaysPlaced m =
+    goodMap m ≡ true → (bs : List Block) → Placed (mapRules m) 0 bs → (c : Call) → Placed (mapRules m) 0 ((plainStep (mapRules m) c bs) .0)

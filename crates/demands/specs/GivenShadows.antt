@@ -1,12 +1,13 @@
--- Samples on given shadows, damaged or not: a call and its answer under the sample map. Assumes nothing.
+-- Samples on given shadows, damaged or not: a call and its answer under a map of 64 heap and 32 stack bytes. Assumes nothing.
 use mathlib.Core.Bool.{Bool, true, _&&_}
 use mathlib.Core.List.{List, [], _∷_, _++_}
 use Prim.Native.Nat.{ℕ, _+_}
 use lib.ListN.{length, replicate, take, drop}
+use Rattle.map.specs.FormMap.{FormMap}
 use Rattle.plain.specs.Call.{Call, Answer}
 use Rattle.shadows.specs.Shadows.{Shadows}
 use Rattle.monitor_base.specs.Calls.{call}
-use Rattle.demands.specs.Samples.{sampleMap, sameAnswer}
+use Rattle.demands.specs.Samples.{sameAnswer}
 
 -- bytes from a position on
 abbrev pub Part : Type 0
@@ -27,6 +28,7 @@ put (p ∷ ps) h = put ps (take (p .0) h ++ (p .1 ++ drop (p .0 + length (p .1))
 abbrev pub givenShadows : Given → Shadows
 givenShadows x = (put (x .heap) (replicate 64 0), (put (x .primary) (replicate 32 0), put (x .secondary) (replicate 32 0)))
 
-unfoldable pub allGiven : List Given → Bool
-allGiven [] = true
-allGiven (x ∷ xs) = sameAnswer ((call sampleMap (x .asks) (givenShadows x)) .1) (x .gets) && allGiven xs
+-- under a map with areas of 64 and 32 bytes
+unfoldable pub allGiven : FormMap → List Given → Bool
+allGiven m [] = true
+allGiven m (x ∷ xs) = sameAnswer ((call m (x .asks) (givenShadows x)) .1) (x .gets) && allGiven m xs

@@ -4,19 +4,19 @@ use mathlib.Core.Path.{_≡_}
 use mathlib.Core.Bool.{true}
 use Prim.Native.Nat.{ℕ, _+_, _%_, _≤_, _<_}
 use lib.ListN.{length}
-use Rattle.map.specs.declared.Map.{Map}
+use Rattle.map.specs.FormMap.{FormMap}
 use Rattle.map.specs.Map.{goodMap}
 use Rattle.shadows.specs.Shadows.{Shadows, lengthsFit}
 use Rattle.demands.specs.Addresses.{inHeap, inStack}
 
-pub record KeepsRules (m : Map) : Type 0 where
-  -- "Sizes and starts are multiples of 8"
-  pub heapSize8 : m .«heap_size» % 8 ≡ 0
+pub record KeepsRules (m : FormMap) : Type 0 where
+  -- "Sizes and starts are multiples of 8"; S-8: "Heap start and size are multiples of 16", the form's segment
+  pub heapSizeWhole : m .«heap_size» % m .segment ≡ 0
   pub stackSize8 : m .«stack_size» % 8 ≡ 0
-  pub heapStart8 : m .«heap_start» % 8 ≡ 0
+  pub heapStartWhole : m .«heap_start» % m .segment ≡ 0
   pub stackStart8 : m .«stack_start» % 8 ≡ 0
-  -- "Heap size is 16 to 131,072, stack size 16 to 65,536"
-  pub heapLeast : 16 ≤ m .«heap_size»
+  -- "Heap size is 16 to 131,072, stack size 16 to 65,536"; S-8: the heap's "at least 32", two segments
+  pub heapLeast : m .segment + m .segment ≤ m .«heap_size»
   pub heapMost : m .«heap_size» ≤ 131072
   pub stackLeast : 16 ≤ m .«stack_size»
   pub stackMost : m .«stack_size» ≤ 65536
@@ -29,24 +29,24 @@ pub record KeepsRules (m : Map) : Type 0 where
   pub noneShared : (a : ℕ) → m .«heap_start» ≤ a → a < m .«heap_start» + m .«heap_size» → m .«stack_start» ≤ a → a < m .«stack_start» + m .«stack_size» → ⊥
 
 -- "A map that keeps these rules is good": exactly such a map
-abbrev pub GoodExactly : Type 0
-GoodExactly = (m : Map) → (goodMap m ≡ true → KeepsRules m) × (KeepsRules m → goodMap m ≡ true)
+abbrev pub GoodExactly : FormMap → Type 0
+GoodExactly m = (goodMap m ≡ true → KeepsRules m) × (KeepsRules m → goodMap m ≡ true)
 
 -- "heap shadow (heap size bytes), primary and secondary (stack size bytes each)": the lengths are right exactly if so
-abbrev pub AsLongAsAreas : Map → Shadows → Type 0
+abbrev pub AsLongAsAreas : FormMap → Shadows → Type 0
 AsLongAsAreas m s = (length (s .0) ≡ m .«heap_size») × (length (s .1 .0) ≡ m .«stack_size») × (length (s .1 .1) ≡ m .«stack_size»)
 
-abbrev pub LengthsExactly : Type 0
-LengthsExactly = (m : Map) (s : Shadows) → (lengthsFit m s ≡ true → AsLongAsAreas m s) × (AsLongAsAreas m s → lengthsFit m s ≡ true)
+abbrev pub LengthsExactly : FormMap → Type 0
+LengthsExactly m = (s : Shadows) → (lengthsFit m s ≡ true → AsLongAsAreas m s) × (AsLongAsAreas m s → lengthsFit m s ≡ true)
 
 -- the address is one of the size addresses from start on
 abbrev pub LiesIn : (start size a : ℕ) → Type 0
 LiesIn start size a = (start ≤ a) × (a < start + size)
 
 -- "address in neither area" goes by these: an address is the heap's, or the stack's, exactly if it lies there
-abbrev pub AreasExactly : Type 0
-AreasExactly =
-    (m : Map) (a : ℕ)
+abbrev pub AreasExactly : FormMap → Type 0
+AreasExactly m =
+    (a : ℕ)
     → (inHeap m a ≡ true → LiesIn (m .«heap_start») (m .«heap_size») a)
     × (LiesIn (m .«heap_start») (m .«heap_size») a → inHeap m a ≡ true)
     × (inStack m a ≡ true → LiesIn (m .«stack_start») (m .«stack_size») a)

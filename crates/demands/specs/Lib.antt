@@ -6,6 +6,8 @@ pub mod DamageSamples
 pub mod Demand1
 pub mod Demand2
 pub mod Demand3
+pub mod Desk
+pub mod DeskSamples
 pub mod Gaps
 pub mod GivenShadows
 pub mod Good

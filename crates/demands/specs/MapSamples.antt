@@ -6,6 +6,7 @@ use Prim.Native.Nat.{ℕ}
 use lib.ListN.{replicate}
 use Rattle.number.specs.Parts.{Each}
 use Rattle.map.specs.declared.Map.{Map}
+use Rattle.map.specs.FormMap.{player, areas}
 use Rattle.plain.specs.Call.{Call, clear, refusal, done}
 use Rattle.shadows.specs.Shadows.{Shadows, zeroShadows}
 use Rattle.monitor_base.specs.Calls.{call}
@@ -56,7 +57,7 @@ badMaps =
 -- maps that keep every rule, at the edges
 unfoldable pub goodMaps : List Map
 goodMaps =
-    sampleMap
+    areas sampleMap
     -- multiples of 8 that are none of 16
     ∷ mapOf 4104 72 8200 40
     -- least and greatest sizes
@@ -91,7 +92,7 @@ wrongLengths =
 -- have no bytes; under the sample map 2 for every call on each of the wrong lengths, and clear is accepted on the right ones
 abbrev pub MapSamplesHold : Type 0
 MapSamplesHold =
-    Each (λ (m : Map). (c : Call) (s : Shadows) → call m c s ≡ (s, refusal 1)) badMaps
-    × Each (λ (m : Map). (c : Call) → call m c (zerosOf 0 0 0) ≡ (zerosOf 0 0 0, refusal 2)) goodMaps
+    Each (λ (m : Map). (c : Call) (s : Shadows) → call (player m) c s ≡ (s, refusal 1)) badMaps
+    × Each (λ (m : Map). (c : Call) → call (player m) c (zerosOf 0 0 0) ≡ (zerosOf 0 0 0, refusal 2)) goodMaps
     × Each (λ (s : Shadows). (c : Call) → call sampleMap c s ≡ (s, refusal 2)) wrongLengths
     × (call sampleMap clear (zerosOf 64 32 32) ≡ (zeroShadows sampleMap, done))

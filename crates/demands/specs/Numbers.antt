@@ -6,7 +6,7 @@ use mathlib.Core.List.{List, [], _∷_}
 use Prim.Native.Nat.{ℕ, zero, suc, _+_, _*_, _-_, _%_}
 use lib.Dec.{leb, eqb}
 use Rattle.number.specs.Parts.{at, zeros}
-use Rattle.map.specs.declared.Map.{Map}
+use Rattle.map.specs.FormMap.{FormMap}
 use Rattle.map.specs.Map.{goodMap}
 use Rattle.plain.specs.declared.Beginning.the-variants.{Unwritten, Written, Literal}
 use Rattle.plain.specs.Areas.{segments}
@@ -31,16 +31,16 @@ isEmpty (next a) = false
 isEmpty audit = false
 isEmpty (place l k) = eqb l 0
 
--- the block fits the area of its base. "A heap header fits when base ≥ heap start + 8"
-abbrev pub fitsArea : Map → (base length : ℕ) → Bool
+-- the block fits the area of its base. "A heap header fits when base ≥ heap start + 8"; S-8: "the header's place" uses 16 for 8
+abbrev pub fitsArea : FormMap → (base length : ℕ) → Bool
 fitsArea m b l =
-    cond (inHeap m b) (leb (m .«heap_start» + 8) b && leb (b + l) (m .«heap_start» + m .«heap_size»))
+    cond (inHeap m b) (leb (m .«heap_start» + m .segment) b && leb (b + l) (m .«heap_start» + m .«heap_size»))
     (leb (b + l) (m .«stack_start» + m .«stack_size»))
 
 -- 4, "address in neither area; for record also when the block, or a heap block's header, does not fit the area of its base": record, free,
 -- written, ask. S-2: not free of address 0. S-5: kind 14 "with 4 outside the stack area". S-7: kind 16 "gets 4 on every address outside the stack
 -- area, 0 included"
-abbrev pub isMisplaced : Map → Call → Bool
+abbrev pub isMisplaced : FormMap → Call → Bool
 isMisplaced m clear = false
 isMisplaced m (begin Unwritten b l) = outside m b || not (fitsArea m b l)
 isMisplaced m (begin Written b l) = outside m b || not (fitsArea m b l)
@@ -56,10 +56,10 @@ isMisplaced m (next a) = false
 isMisplaced m audit = false
 isMisplaced m (place l k) = false
 
--- 5, "heap base is no multiple of 8": record
-abbrev pub isUnaligned : Map → Call → Bool
+-- 5, "heap base is no multiple of 8": record. S-8: "5 means a multiple of 16 here"
+abbrev pub isUnaligned : FormMap → Call → Bool
 isUnaligned m clear = false
-isUnaligned m (begin h b l) = inHeap m b && not (eqb (b % 8) 0)
+isUnaligned m (begin h b l) = inHeap m b && not (eqb (b % m .segment) 0)
 isUnaligned m (free x) = false
 isUnaligned m (remove x) = false
 isUnaligned m (written a n) = false
@@ -71,13 +71,13 @@ isUnaligned m audit = false
 isUnaligned m (place l k) = false
 
 -- every byte of the place is zero: "header and segments; primary and secondary of the range"
-abbrev pub placeZero : Map → Shadows → (base length : ℕ) → Bool
+abbrev pub placeZero : FormMap → Shadows → (base length : ℕ) → Bool
 placeZero m s b l =
-    cond (inHeap m b) (zeros (at (s .0)) (b - m .«heap_start» - 8) (8 + segments 8 l * 8))
+    cond (inHeap m b) (zeros (at (s .0)) (b - m .«heap_start» - m .segment) (m .segment + segments (m .segment) l * m .segment))
     (zeros (at (s .1 .0)) (b - m .«stack_start») l && zeros (at (s .1 .1)) (b - m .«stack_start») l)
 
 -- 6, "some shadow byte of the place is not zero": record
-abbrev pub isTaken : Map → Call → Shadows → Bool
+abbrev pub isTaken : FormMap → Call → Shadows → Bool
 isTaken m clear s = false
 isTaken m (begin h b l) s = not (placeZero m s b l)
 isTaken m (free x) s = false
@@ -103,7 +103,7 @@ noneBegins rd a (suc n) = not (isFirst (rd a)) && noneBegins rd (suc a) n
 -- 8, "a reading is damaged (for valid, either reading; for written and initialised, the first byte's; for next, one met before an answer);
 -- for audit, no image": all but clear, record and, as it takes no reading, place. S-2: free of address 0 takes no reading. S-7: of a stack
 -- address free is 15 before it. What audit finds is no image: Demand2.antt, `AuditOnly` and `AuditRefuses`
-abbrev pub damageMet : Map → Call → Shadows → Bool
+abbrev pub damageMet : FormMap → Call → Shadows → Bool
 damageMet m clear s = false
 damageMet m (begin h b l) s = false
 damageMet m (free zero) s = false
@@ -119,7 +119,7 @@ damageMet m (place l k) s = false
 
 -- 7, "no block there; for free, base not a block's first byte; for written, range not in one block; for next, none follows": free, written,
 -- ask, next. S-2: not free of address 0. S-7: kind 16 "removes a stack block as free used to". "never where 8 holds" is in the order of `rows`
-abbrev pub blockMissed : Map → Call → Shadows → Bool
+abbrev pub blockMissed : FormMap → Call → Shadows → Bool
 blockMissed m clear s = false
 blockMissed m (begin h b l) s = false
 blockMissed m (free zero) s = false
@@ -134,7 +134,7 @@ blockMissed m audit s = false
 blockMissed m (place l k) s = false
 
 -- 13, S-5: "written into a literal": written
-abbrev pub intoLiteral : Map → Call → Shadows → Bool
+abbrev pub intoLiteral : FormMap → Call → Shadows → Bool
 intoLiteral m clear s = false
 intoLiteral m (begin h b l) s = false
 intoLiteral m (free x) s = false
@@ -153,7 +153,7 @@ someSegment p zero = false
 someSegment p (suc n) = someSegment p n || p n
 
 -- 14, S-6: "exactly if no gap looked at fits": place. "A gap fits if it holds header and block"
-abbrev pub noRoom : Map → Call → Shadows → Bool
+abbrev pub noRoom : FormMap → Call → Shadows → Bool
 noRoom m clear s = false
 noRoom m (begin h b l) s = false
 noRoom m (free x) s = false
@@ -164,10 +164,10 @@ noRoom m (valid w a n from) s = false
 noRoom m (initialised a n) s = false
 noRoom m (next a) s = false
 noRoom m audit s = false
-noRoom m (place l k) s = not (someSegment (λ i. isLooked s k i && leb (8 + l) (gapSize m s i * 8)) (heapSegments m))
+noRoom m (place l k) s = not (someSegment (λ i. isLooked m s k i && leb (m .segment + l) (gapSize m s i * m .segment)) (heapSegments m))
 
 -- 15, S-7: "free of a stack address", whatever is read there: free. S-2: not free of address 0
-abbrev pub freesStack : Map → Call → Bool
+abbrev pub freesStack : FormMap → Call → Bool
 freesStack m clear = false
 freesStack m (begin h b l) = false
 freesStack m (free zero) = false
@@ -183,7 +183,7 @@ freesStack m (place l k) = false
 
 -- the rows of the table, in the order in which they are given: by their numbers, but 15 "after 4 and ahead of 7 and 8", and 7, "never where 8 holds",
 -- after 8
-abbrev pub rows : Map → Call → Shadows → List Refusal
+abbrev pub rows : FormMap → Call → Shadows → List Refusal
 rows m c s =
     (1, not (goodMap m)) ∷ (2, not (lengthsFit m s)) ∷ (3, isEmpty c) ∷ (4, isMisplaced m c) ∷ (5, isUnaligned m c) ∷ (6, isTaken m c s)
     ∷ (15, freesStack m c) ∷ (8, damageMet m c s) ∷ (7, blockMissed m c s) ∷ (13, intoLiteral m c s) ∷ (14, noRoom m c s) ∷ []

@@ -5,7 +5,7 @@ use mathlib.Core.Path.{_≡_}
 use mathlib.Core.Bool.{true}
 use mathlib.Core.List.{List, [], _∷_}
 use Prim.Native.Nat.{ℕ}
-use Rattle.map.specs.declared.Map.{Map}
+use Rattle.map.specs.FormMap.{FormMap, player}
 use Rattle.plain.specs.Call.{record-block, free, audit, place, Answer, answer, refusal, done}
 use Rattle.demands.specs.GivenShadows.{Given, Part, allGiven}
 use Rattle.demands.specs.Samples.{Sample, sampleMap, one, zeros8, allHold}
@@ -85,12 +85,12 @@ placesInRun =
     ∷ []
 
 -- a heap of two segments at the end of all addresses
-abbrev pub topMap : Map
-topMap = record { «heap_start» = 4294967272; «heap_size» = 16; «stack_start» = 8192; «stack_size» = 16 }
+abbrev pub topMap : FormMap
+topMap = player (record { «heap_start» = 4294967272; «heap_size» = 16; «stack_start» = 8192; «stack_size» = 16 })
 
 unfoldable pub placesAtTop : List Sample
 placesAtTop = one (place 8 1) (answer 0 4294967280 1 0 0) ∷ one (place 9 1) (refusal 14) ∷ one (place 4294967295 1) (refusal 14) ∷ []
 
 -- every sample holds
 abbrev pub PlaceSamplesHold : Type 0
-PlaceSamplesHold = (allGiven places ≡ true) × (allHold sampleMap placesInRun ≡ true) × (allHold topMap placesAtTop ≡ true)
+PlaceSamplesHold = (allGiven sampleMap places ≡ true) × (allHold sampleMap placesInRun ≡ true) × (allHold topMap placesAtTop ≡ true)

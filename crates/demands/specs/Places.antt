@@ -7,7 +7,7 @@ use mathlib.Core.List.{List}
 use Prim.Native.Nat.{ℕ, suc, _+_, _*_, _-_, _≤_, _<_, min}
 use lib.ListN.{length}
 use Rattle.number.specs.Parts.{at}
-use Rattle.map.specs.declared.Map.{Map}
+use Rattle.map.specs.FormMap.{FormMap}
 use Rattle.map.specs.Map.{goodMap}
 use Rattle.plain.specs.Block.{Block}
 use Rattle.plain.specs.Gaps.{Gap, Among, Ascending}
@@ -24,68 +24,68 @@ abbrev pub ZeroFrom : Shadows → (q n : ℕ) → Type 0
 ZeroFrom s q n = (p : ℕ) → q ≤ p → p < q + n → at (s .0) p ≡ 0
 
 -- the n segments from segment i on are a gap
-pub record IsGap (m : Map) (s : Shadows) (i n : ℕ) : Type 0 where
+pub record IsGap (m : FormMap) (s : Shadows) (i n : ℕ) : Type 0 where
   -- "the runs of all-zero heap shadow segments"
   pub some : 1 ≤ n
-  pub inside : i * 8 + n * 8 ≤ m .«heap_size»
-  pub zero : ZeroFrom s (i * 8) (n * 8)
+  pub inside : i * m .segment + n * m .segment ≤ m .«heap_size»
+  pub zero : ZeroFrom s (i * m .segment) (n * m .segment)
   -- "that no such segment adjoins": neither the one before nor the one after
-  pub before : (j : ℕ) → suc j ≡ i → ZeroFrom s (j * 8) 8 → ⊥
-  pub after : i * 8 + n * 8 + 8 ≤ m .«heap_size» → ZeroFrom s (i * 8 + n * 8) 8 → ⊥
+  pub before : (j : ℕ) → suc j ≡ i → ZeroFrom s (j * m .segment) (m .segment) → ⊥
+  pub after : i * m .segment + n * m .segment + m .segment ≤ m .«heap_size» → ZeroFrom s (i * m .segment + n * m .segment) (m .segment) → ⊥
 
 -- ---- the gaps of the definition
 
-abbrev pub gapsAt : Map → Shadows → List Gap
+abbrev pub gapsAt : FormMap → Shadows → List Gap
 gapsAt m s = shadowOps m .gaps s
 
 -- the gap of n segments from segment i on, by addresses
-abbrev pub gapFrom : Map → (i n : ℕ) → Gap
-gapFrom m i n = record { start = m .«heap_start» + i * 8; bytes = n * 8 }
+abbrev pub gapFrom : FormMap → (i n : ℕ) → Gap
+gapFrom m i n = record { start = m .«heap_start» + i * m .segment; bytes = n * m .segment }
 
 -- they are exactly the gaps, each once, "in address order"
-abbrev pub GapsExactly : Type 0
-GapsExactly =
-    (m : Map) (s : Shadows)
+abbrev pub GapsExactly : FormMap → Type 0
+GapsExactly m =
+    (s : Shadows)
     → ((i n : ℕ) → IsGap m s i n → Among (gapFrom m i n) (gapsAt m s))
     × ((g : Gap) → Among g (gapsAt m s) → (i : ℕ) × (n : ℕ) × IsGap m s i n × (g ≡ gapFrom m i n))
     × Ascending (gapsAt m s)
 
 -- and `gapsBelow` counts them: none begin before segment 0, each counts one, nothing else does, and those of all segments are all
-abbrev pub GapsCounted : Type 0
-GapsCounted =
-    (m : Map) (s : Shadows)
-    → (length (gapsAt m s) ≡ gapsBelow s (heapSegments m)) × (gapsBelow s 0 ≡ 0)
-    × ((i n : ℕ) → IsGap m s i n → gapsBelow s (suc i) ≡ suc (gapsBelow s i))
-    × ((i : ℕ) → i < heapSegments m → ((n : ℕ) → IsGap m s i n → ⊥) → gapsBelow s (suc i) ≡ gapsBelow s i)
+abbrev pub GapsCounted : FormMap → Type 0
+GapsCounted m =
+    (s : Shadows)
+    → (length (gapsAt m s) ≡ gapsBelow m s (heapSegments m)) × (gapsBelow m s 0 ≡ 0)
+    × ((i n : ℕ) → IsGap m s i n → gapsBelow m s (suc i) ≡ suc (gapsBelow m s i))
+    × ((i : ℕ) → i < heapSegments m → ((n : ℕ) → IsGap m s i n → ⊥) → gapsBelow m s (suc i) ≡ gapsBelow m s i)
 
 -- ---- the choice
 
 -- a gap that is looked at, one of the first k, and fits: "it holds header and block"
-pub record Fits (m : Map) (s : Shadows) (l k i n : ℕ) : Type 0 where
+pub record Fits (m : FormMap) (s : Shadows) (l k i n : ℕ) : Type 0 where
   pub gap : IsGap m s i n
-  pub looked : gapsBelow s i < k
-  pub holds : 8 + l ≤ n * 8
+  pub looked : gapsBelow m s i < k
+  pub holds : m .segment + l ≤ n * m .segment
 
 -- "the block's whole segments": the least that hold its bytes
-abbrev pub WholeSegments : Type 0
-WholeSegments = (l : ℕ) → (l ≤ segments 8 l * 8) × (segments 8 l * 8 < l + 8)
+abbrev pub WholeSegments : FormMap → Type 0
+WholeSegments m = (l : ℕ) → (l ≤ segments (m .segment) l * m .segment) × (segments (m .segment) l * m .segment < l + m .segment)
 
 -- where place is accepted it answers the base, "its second segment", in a gap that is looked at and fits; no gap looked at that fits is smaller, and
 -- none of the same size is lower; the gaps looked at are k, or all where those are fewer; the surplus is "the gap's bytes less the header and the
 -- block's whole segments"; and no byte is altered
-abbrev pub PlaceChooses : Type 0
-PlaceChooses =
-    (m : Map) (s : Shadows) (l k : ℕ) → numberOf m (place l k) s ≡ 0
+abbrev pub PlaceChooses : FormMap → Type 0
+PlaceChooses m =
+    (s : Shadows) (l k : ℕ) → numberOf m (place l k) s ≡ 0
     → (i : ℕ) × (n : ℕ) × Fits m s l k i n
     × ((j p : ℕ) → Fits m s l k j p → (n ≤ p) × (n ≡ p → i ≤ j))
     × (call m (place l k) s
-    ≡ (s, answer 0 (m .«heap_start» + i * 8 + 8) (min k (gapsBelow s (heapSegments m))) (n * 8 - placeBytes l) 0))
+    ≡ (s, answer 0 (m .«heap_start» + i * m .segment + m .segment) (min k (gapsBelow m s (heapSegments m))) (n * m .segment - placeBytes m l) 0))
 
 -- "14, after 3, exactly if no gap looked at fits": under a good map, with the right lengths and a length of one or more, it is refused by 14 if none
 -- does, and accepted if one does
-abbrev pub PlaceRefused : Type 0
-PlaceRefused =
-    (m : Map) (s : Shadows) → goodMap m ≡ true → lengthsFit m s ≡ true → (l k : ℕ) → 1 ≤ l
+abbrev pub PlaceRefused : FormMap → Type 0
+PlaceRefused m =
+    (s : Shadows) → goodMap m ≡ true → lengthsFit m s ≡ true → (l k : ℕ) → 1 ≤ l
     → (((i n : ℕ) → Fits m s l k i n → ⊥) → call m (place l k) s ≡ (s, answer 14 0 0 0 0))
     × ((i n : ℕ) → Fits m s l k i n → numberOf m (place l k) s ≡ 0)
 
@@ -94,21 +94,21 @@ surplusOf (answer k a b c d) = c
 
 -- "no larger budget can gain more than that surplus, and none gives a larger one": a larger budget is accepted too, with a surplus that is at most
 -- this one's, so that it gains at most this surplus
-abbrev pub LargerBudget : Type 0
-LargerBudget =
-    (m : Map) (s : Shadows) (l k k′ : ℕ) → k ≤ k′ → numberOf m (place l k) s ≡ 0
+abbrev pub LargerBudget : FormMap → Type 0
+LargerBudget m =
+    (s : Shadows) (l k k′ : ℕ) → k ≤ k′ → numberOf m (place l k) s ≡ 0
     → (numberOf m (place l k′) s ≡ 0) × (surplusOf ((call m (place l k′) s) .1) ≤ surplusOf ((call m (place l k) s) .1))
 
 -- "A place for the next block": right after an accepted place, record of that base and length is accepted, and so is record_written
-abbrev pub PlacedRecorded : Type 0
-PlacedRecorded =
-    (m : Map) (s : Shadows) (l k b c u : ℕ) → (call m (place l k) s) .1 ≡ answer 0 b c u 0
+abbrev pub PlacedRecorded : FormMap → Type 0
+PlacedRecorded m =
+    (s : Shadows) (l k b c u : ℕ) → (call m (place l k) s) .1 ≡ answer 0 b c u 0
     → (numberOf m (record-block b l) s ≡ 0) × (numberOf m (record-written b l) s ≡ 0)
 
 -- ---- the plain list
 
 -- "what a request defines by shadow bytes, the plain list works out on its own image": the gaps that it goes by, the heap's segments that no live
 -- block's header or segments hold, are those of its image's bytes
-abbrev pub OnItsOwnImage : Type 0
-OnItsOwnImage =
-    (m : Map) → goodMap m ≡ true → (bs : List Block) → Placed (mapRules m) 0 bs → mapRules m .gaps bs ≡ gapsAt m (image m bs)
+abbrev pub OnItsOwnImage : FormMap → Type 0
+OnItsOwnImage m =
+    goodMap m ≡ true → (bs : List Block) → Placed (mapRules m) 0 bs → mapRules m .gaps bs ≡ gapsAt m (image m bs)

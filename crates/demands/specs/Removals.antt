@@ -7,7 +7,7 @@ use mathlib.Core.List.{List}
 use Prim.Native.Nat.{ℕ, _+_, _*_, _-_}
 use lib.ListN.{length}
 use Rattle.number.specs.Parts.{at, inPart}
-use Rattle.map.specs.declared.Map.{Map}
+use Rattle.map.specs.FormMap.{FormMap}
 use Rattle.map.specs.Map.{goodMap}
 use Rattle.plain.specs.Block.{Block}
 use Rattle.plain.specs.Blocks.{Has}
@@ -24,9 +24,9 @@ use Rattle.demands.specs.Demand1.{numberOf}
 -- ---- free
 
 -- "Free shall refuse stack addresses", by 15, "after 4 and ahead of 7 and 8": each of them, block or not, whatever the bytes are; on the plain list too
-abbrev pub FreeOfStack : Type 0
-FreeOfStack =
-    (m : Map) → goodMap m ≡ true → (a : ℕ) → inStack m a ≡ true
+abbrev pub FreeOfStack : FormMap → Type 0
+FreeOfStack m =
+    goodMap m ≡ true → (a : ℕ) → inStack m a ≡ true
     → ((s : Shadows) → lengthsFit m s ≡ true → call m (free a) s ≡ (s, answer 15 0 0 0 0))
     × ((bs : List Block) → plainStep (mapRules m) (free a) bs ≡ (bs, answer 15 0 0 0 0))
 
@@ -43,29 +43,29 @@ Refuses r s x =
 
 -- at an address of the heap, whatever the bytes are, free goes by the reading there, as it did: where that is a block's first byte, "zeroes the shadow
 -- of the block and of its header", and nothing else
-abbrev pub FreeByReading : Type 0
-FreeByReading =
-    (m : Map) (s : Shadows) → goodMap m ≡ true → lengthsFit m s ≡ true → (a : ℕ) → inHeap m a ≡ true
+abbrev pub FreeByReading : FormMap → Type 0
+FreeByReading m =
+    (s : Shadows) → goodMap m ≡ true → lengthsFit m s ≡ true → (a : ℕ) → inHeap m a ≡ true
     → Refuses (readingAt m s a) s (call m (free a) s)
     × ((b l w : ℕ) (t : Bool) → readingAt m s a ≡ block b l 0 w t
     → ((call m (free a) s) .1 ≡ answer 0 0 0 0 0)
-    × Zeroed (a - m .«heap_start» - 8) (8 + segments 8 l * 8) (s .0) ((call m (free a) s) .0 .0)
+    × Zeroed (a - m .«heap_start» - m .segment) (m .segment + segments (m .segment) l * m .segment) (s .0) ((call m (free a) s) .0 .0)
     × ((call m (free a) s) .0 .1 ≡ s .1))
 
 -- ---- remove
 
 -- kind 16 "gets 4 on every address outside the stack area, 0 included", whatever the bytes are; on the plain list too
-abbrev pub RemoveElsewhere : Type 0
-RemoveElsewhere =
-    (m : Map) → goodMap m ≡ true → (a : ℕ) → inStack m a ≡ false
+abbrev pub RemoveElsewhere : FormMap → Type 0
+RemoveElsewhere m =
+    goodMap m ≡ true → (a : ℕ) → inStack m a ≡ false
     → ((s : Shadows) → lengthsFit m s ≡ true → call m (remove a) s ≡ (s, answer 4 0 0 0 0))
     × ((bs : List Block) → plainStep (mapRules m) (remove a) bs ≡ (bs, answer 4 0 0 0 0))
 
 -- "Kind 16 (base) removes a stack block as free used to": at an address of the stack, whatever the bytes are, it goes by the reading there. Where that is a
 -- block's first byte, primary and secondary of its bytes become zero, and nothing else is altered, of a literal as of any other block
-abbrev pub RemoveByReading : Type 0
-RemoveByReading =
-    (m : Map) (s : Shadows) → goodMap m ≡ true → lengthsFit m s ≡ true → (a : ℕ) → inStack m a ≡ true
+abbrev pub RemoveByReading : FormMap → Type 0
+RemoveByReading m =
+    (s : Shadows) → goodMap m ≡ true → lengthsFit m s ≡ true → (a : ℕ) → inStack m a ≡ true
     → Refuses (readingAt m s a) s (call m (remove a) s)
     × ((b l w : ℕ) (t : Bool) → readingAt m s a ≡ block b l 0 w t
     → ((call m (remove a) s) .1 ≡ answer 0 0 0 0 0)
@@ -76,23 +76,23 @@ RemoveByReading =
 -- ---- both
 
 -- free alters no primary and no secondary byte, and remove none of the heap shadow: on any map, lengths and bytes
-abbrev pub EachItsArea : Type 0
-EachItsArea = (m : Map) (a : ℕ) (s : Shadows) → ((call m (free a) s) .0 .1 ≡ s .1) × ((call m (remove a) s) .0 .0 ≡ s .0)
+abbrev pub EachItsArea : FormMap → Type 0
+EachItsArea m = (a : ℕ) (s : Shadows) → ((call m (free a) s) .0 .1 ≡ s .1) × ((call m (remove a) s) .0 .0 ≡ s .0)
 
 -- a is the base of a listed block
 abbrev pub BaseOf : (a : ℕ) → List Block → Type 0
 BaseOf a bs = (b : Block) × Has b bs × (b .base ≡ a)
 
 -- "Only heap blocks may be freed": on every image free is accepted exactly at 0 and at the base of a heap block
-abbrev pub FreeExactly : Type 0
-FreeExactly =
-    (m : Map) → goodMap m ≡ true → (bs : List Block) → Placed (mapRules m) 0 bs → (a : ℕ)
+abbrev pub FreeExactly : FormMap → Type 0
+FreeExactly m =
+    goodMap m ≡ true → (bs : List Block) → Placed (mapRules m) 0 bs → (a : ℕ)
     → ((a ≡ 0) ⊎ ((inHeap m a ≡ true) × BaseOf a bs) → numberOf m (free a) (image m bs) ≡ 0)
     × (numberOf m (free a) (image m bs) ≡ 0 → (a ≡ 0) ⊎ ((inHeap m a ≡ true) × BaseOf a bs))
 
 -- and remove, "a stack block", exactly at the base of one
-abbrev pub RemoveExactly : Type 0
-RemoveExactly =
-    (m : Map) → goodMap m ≡ true → (bs : List Block) → Placed (mapRules m) 0 bs → (a : ℕ)
+abbrev pub RemoveExactly : FormMap → Type 0
+RemoveExactly m =
+    goodMap m ≡ true → (bs : List Block) → Placed (mapRules m) 0 bs → (a : ℕ)
     → ((inStack m a ≡ true) × BaseOf a bs → numberOf m (remove a) (image m bs) ≡ 0)
     × (numberOf m (remove a) (image m bs) ≡ 0 → (inStack m a ≡ true) × BaseOf a bs)

@@ -6,7 +6,7 @@ use mathlib.Core.List.{List, [], _∷_, _++_}
 use Prim.Native.Nat.{ℕ, suc, _*_}
 use lib.Dec.{eqb}
 use Rattle.number.specs.Parts.{at}
-use Rattle.map.specs.declared.Map.{Map}
+use Rattle.map.specs.FormMap.{FormMap, player}
 use Rattle.plain.specs.Call.{Call, clear, record-block, record-written, free, remove, written, ask, valid-write, initialised, next, audit, Answer, answer, refusal, done}
 use Rattle.shadows.specs.Shadows.{Shadows, zeroShadows}
 use Rattle.monitor_base.specs.Calls.{call}
@@ -19,8 +19,8 @@ pub record Sample : Type 0 where
   pub primary : ℕ × List ℕ
   pub secondary : ℕ × List ℕ
 
-abbrev pub sampleMap : Map
-sampleMap = record { «heap_start» = 4096; «heap_size» = 64; «stack_start» = 8192; «stack_size» = 32 }
+abbrev pub sampleMap : FormMap
+sampleMap = player (record { «heap_start» = 4096; «heap_size» = 64; «stack_start» = 8192; «stack_size» = 32 })
 
 -- ---- does a sample hold
 
@@ -37,16 +37,16 @@ bytesHold x s =
     && sameBytes (s .1 .1) (x .secondary .0) (x .secondary .1)
 
 -- the calls give these answers, as many as there are calls, and leave these bytes
-unfoldable pub runHolds : Map → Sample → Shadows → List Call → List Answer → Bool
+unfoldable pub runHolds : FormMap → Sample → Shadows → List Call → List Answer → Bool
 runHolds m x s [] [] = bytesHold x s
 runHolds m x s [] (r ∷ rs) = false
 runHolds m x s (c ∷ cs) [] = false
 runHolds m x s (c ∷ cs) (r ∷ rs) = let after = call m c s in sameAnswer (after .1) r && runHolds m x (after .0) cs rs
 
-abbrev pub sampleHolds : Map → Sample → Bool
+abbrev pub sampleHolds : FormMap → Sample → Bool
 sampleHolds m x = runHolds m x (zeroShadows m) (x .calls) (x .answers)
 
-unfoldable pub allHold : Map → List Sample → Bool
+unfoldable pub allHold : FormMap → List Sample → Bool
 allHold m [] = true
 allHold m (x ∷ xs) = sampleHolds m x && allHold m xs
 
@@ -224,8 +224,8 @@ begunWritten =
 
 -- ---- numbers above 255, under a map whose areas have 320 bytes each (an audit of these is more than the checker computes)
 
-abbrev pub largerMap : Map
-largerMap = record { «heap_start» = 4096; «heap_size» = 320; «stack_start» = 8192; «stack_size» = 320 }
+abbrev pub largerMap : FormMap
+largerMap = player (record { «heap_start» = 4096; «heap_size» = 320; «stack_start» = 8192; «stack_size» = 320 })
 
 -- a heap block of 300, 9 of its bytes from offset 256 on written, and the heap shadow from a position on
 abbrev longHeap : (position : ℕ) → List ℕ → Sample

@@ -6,7 +6,7 @@ use mathlib.Core.Bool.{Bool, true, false, cond, _&&_}
 use mathlib.Core.Option.{Option, none, some}
 use Prim.Native.Nat.{ℕ, zero, suc, _+_, _*_, _-_, _≤_, _<_, min}
 use lib.Dec.{leb, eqb}
-use Rattle.map.specs.declared.Map.{Map}
+use Rattle.map.specs.FormMap.{FormMap}
 use Rattle.number.specs.Bits.{bit}
 use Rattle.plain.specs.Reading.{Reading, nothing, block, damaged}
 use Rattle.plain.specs.Call.{Call, clear, begin, free, remove, written, ask, valid, initialised, next, audit, place, Answer, answer}
@@ -81,7 +81,7 @@ beginsHere damaged = 0
 
 -- "heap blocks, stack blocks, live bytes, written bytes": of all addresses below the end of the areas, how many of the heap and how many of the
 -- stack are a block's first byte, how many are a block's, and how many of those are written
-abbrev pub totalsTold : Map → (ℕ → Reading) → Answer
+abbrev pub totalsTold : FormMap → (ℕ → Reading) → Answer
 totalsTold m rd =
     answer 0 (sumOver (λ a. cond (inHeap m a) (beginsHere (rd a)) 0) 0 (endOfAreas m)) (sumOver (λ a. cond (inStack m a) (beginsHere (rd a)) 0) 0 (endOfAreas m))
     (sumOver (λ a. liveHere (rd a)) 0 (endOfAreas m)) (sumOver (λ a. writtenHere (rd a)) 0 (endOfAreas m))
@@ -92,20 +92,20 @@ lowestFrom p i zero = none
 lowestFrom p i (suc n) = cond (p i) (some i) (lowestFrom p (suc i) n)
 
 -- S-6: base, gaps looked at and surplus of a gap of x segments that begins at segment i; where there is none, what is told of larger ones
-abbrev pub placeHere : Map → Shadows → (l k x : ℕ) → Option ℕ → (larger : Answer) → Answer
+abbrev pub placeHere : FormMap → Shadows → (l k x : ℕ) → Option ℕ → (larger : Answer) → Answer
 placeHere m s l k x none larger = larger
 placeHere m s l k x (some i) larger =
-    answer 0 (m .«heap_start» + i * 8 + 8) (min k (gapsBelow s (heapSegments m))) (x * 8 - placeBytes l) 0
+    answer 0 (m .«heap_start» + i * m .segment + m .segment) (min k (gapsBelow m s (heapSegments m))) (x * m .segment - placeBytes m l) 0
 
 -- "the smallest gap that fits, the lowest among equals": of the sizes x, x + 1 and so on, n of them, the first that holds header and block and that a gap
 -- looked at has, and the lowest such gap. Where there is none, place is refused
-unfoldable pub placeTold : Map → Shadows → (l k x n : ℕ) → Answer
+unfoldable pub placeTold : FormMap → Shadows → (l k x n : ℕ) → Answer
 placeTold m s l k x zero = answer 0 0 0 0 0
 placeTold m s l k x (suc n) =
-    placeHere m s l k x (lowestFrom (λ i. leb (8 + l) (x * 8) && isLooked s k i && eqb (gapSize m s i) x) 0 (heapSegments m)) (placeTold m s l k (suc x) n)
+    placeHere m s l k x (lowestFrom (λ i. leb (m .segment + l) (x * m .segment) && isLooked m s k i && eqb (gapSize m s i) x) 0 (heapSegments m)) (placeTold m s l k (suc x) n)
 
 -- the number 0 and the fields, "in the order above", "all other fields zero"
-abbrev pub told : Map → Call → Shadows → Answer
+abbrev pub told : FormMap → Call → Shadows → Answer
 told m clear s = answer 0 0 0 0 0
 told m (begin h b l) s = answer 0 0 0 0 0
 told m (free x) s = answer 0 0 0 0 0
@@ -120,21 +120,21 @@ told m audit s = totalsTold m (readingAt m s)
 told m (place l k) s = placeTold m s l k 0 (suc (heapSegments m))
 
 -- every call, on any input, where it is accepted
-abbrev pub AnswersRead : Type 0
-AnswersRead = (m : Map) (c : Call) (s : Shadows) → numberOf m c s ≡ 0 → (call m c s) .1 ≡ told m c s
+abbrev pub AnswersRead : FormMap → Type 0
+AnswersRead m = (c : Call) (s : Shadows) → numberOf m c s ≡ 0 → (call m c s) .1 ≡ told m c s
 
 -- the same of audit, by what ask answers: where audit answers 0, its totals are those of the answers 0 of ask at all addresses below the end of the
 -- areas (`toldAt`: base, length, offset and written of such an answer)
-abbrev pub TotalsTold : Type 0
-TotalsTold =
-    (m : Map) (s : Shadows) → numberOf m audit s ≡ 0 → (call m audit s) .1 ≡ totalsTold m (toldAt m s)
+abbrev pub TotalsTold : FormMap → Type 0
+TotalsTold m =
+    (s : Shadows) → numberOf m audit s ≡ 0 → (call m audit s) .1 ≡ totalsTold m (toldAt m s)
 
 -- what every reading that gives a block keeps, on any shadows: "offset = a − base", "If offset ≥ L, no block"; the written bit is that of the
 -- address; the block is a literal if bit 1 of the address is set, "bit 1 of the primary byte read; heap blocks always may" be written; and the block
 -- fits its area, the heap's with its header
-abbrev pub BlocksRead : Type 0
-BlocksRead =
-    (m : Map) (s : Shadows) (a b l o w : ℕ) (t : Bool) → readingAt m s a ≡ block b l o w t
+abbrev pub BlocksRead : FormMap → Type 0
+BlocksRead m =
+    (s : Shadows) (a b l o w : ℕ) (t : Bool) → readingAt m s a ≡ block b l o w t
     → (b + o ≡ a) × (o < l) × (w ≡ writtenAt m s a) × (bit t ≡ literalAt m s a)
-    × (inHeap m a ≡ true → (m .«heap_start» + 8 ≤ b) × (b + l ≤ m .«heap_start» + m .«heap_size»))
+    × (inHeap m a ≡ true → (m .«heap_start» + m .segment ≤ b) × (b + l ≤ m .«heap_start» + m .«heap_size»))
     × (inHeap m a ≡ false → (m .«stack_start» ≤ b) × (b + l ≤ m .«stack_start» + m .«stack_size»))

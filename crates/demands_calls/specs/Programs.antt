@@ -3,10 +3,11 @@
 use mathlib.Core.Path.{_≡_}
 use mathlib.Core.Logic.{_≢_, _⊎_}
 use mathlib.Core.List.{List}
-use mathlib.Core.Option.{Option, none, some}
+use mathlib.Core.Option.{none, some}
 use Prim.Native.Nat.{ℕ, _≤_, _<_}
 use lib.ListN.{length}
 use Rattle.map.specs.declared.Map.{Map}
+use Rattle.map.specs.FormMap.{player}
 use Rattle.plain.specs.Call as base
 use Rattle.plain.specs.Call.{record-block, record-written, record-literal, free, remove, written, ask, valid-write, valid-read, initialised, next, audit, done, refusal}
 use Rattle.shadows.specs.Shadows.{Shadows, zeroShadows}
@@ -86,7 +87,7 @@ OwnKinds =
 abbrev pub ServesCalls : Type 0
 ServesCalls =
     (m : Map)
-    → ((c : base.Call) (s : Shadows) → running.serve (call c) (m, s) ≡ ((m, (monitor.call m c s) .0), (monitor.call m c s) .1))
+    → ((c : base.Call) (s : Shadows) → running.serve (call c) (m, s) ≡ ((m, (monitor.call (player m) c s) .0), (monitor.call (player m) c s) .1))
     × ((c : form.Call) (x : origins.State) → origins-run.serve (call c) (m, x) ≡ ((m, (origins.call m c x) .0), (origins.call m c x) .1))
 
 -- every accepted map clears the shadows, in the form with origins the cells too, and leaves the counter; every refused one keeps map and state
@@ -94,7 +95,7 @@ abbrev pub ServesMaps : Type 0
 ServesMaps =
     (m : Map)
     → ((s : running.State)
-    → (mapNumber m ≡ 0 → running.serve (newMap m) s ≡ ((m, zeroShadows m), done))
+    → (mapNumber m ≡ 0 → running.serve (newMap m) s ≡ ((m, zeroShadows (player m)), done))
     × (mapNumber m ≢ 0 → running.serve (newMap m) s ≡ (s, refusal (mapNumber m))))
     × ((s : origins-run.State)
     → (mapNumber m ≡ 0 → origins-run.serve (newMap m) s ≡ ((m, origins.firstStateAt m (s .1 .counter)), done))

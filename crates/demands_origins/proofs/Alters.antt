@@ -9,6 +9,7 @@ use borrow.Author.Tests.{not-false, eqb-true, eq-eqb, ne-eqb}
 use Rattle.number.proofs.TestLaws.{Test, is-true, is-false, test, or-false, and-false-r}
 use Rattle.number.proofs.PartLaws.{length-over}
 use Rattle.map.specs.declared.Map.{Map}
+use Rattle.map.specs.FormMap.{player}
 use Rattle.map.specs.Map.{goodMap}
 use Rattle.map.proofs.MapLaws.{Good, good-true}
 use Rattle.plain.specs.Areas.{mapRules}
@@ -39,7 +40,7 @@ use Rattle.demands_origins.proofs.CellLaws.{CellsLong, Lies, referent-w
 -- ---- what an accepted call says
 
 abbrev does : Map → Call → State → State × Answer
-does m c x = (stateAfter (mapRules m) (shadowOps m) (cellOps m) c x, stateAnswer (mapRules m) (shadowOps m) (cellOps m) c x)
+does m c x = (stateAfter (mapRules (player m)) (shadowOps (player m)) (cellOps m) c x, stateAnswer (mapRules (player m)) (shadowOps (player m)) (cellOps m) c x)
 
 accepted : (m : Map) (c : Call) (x : State) → numberOf m c x ≡ 0 → call m c x ≡ does m c x
 unfolding call
@@ -51,37 +52,37 @@ now m c x e = ap (λ (r : State × Answer). r .0 .cells) (accepted m c x e)
 -- of the map and the lengths
 cells-long : (m : Map) (x : State) → lengthsDiffer m x ≡ false → CellsLong m (x .cells)
 cells-long m x e =
-    let a = or-false (not (lengthsFit m (x .shadows)) || not (eqb (length (x .cells .0)) (2 * m .«heap_size»))) _ e in
-    let b = or-false (not (lengthsFit m (x .shadows))) _ (a .0) in
+    let a = or-false (not (lengthsFit (player m) (x .shadows)) || not (eqb (length (x .cells .0)) (2 * m .«heap_size»))) _ e in
+    let b = or-false (not (lengthsFit (player m) (x .shadows))) _ (a .0) in
     (eqb-true _ _ (not-false _ (b .1)), eqb-true _ _ (not-false _ (a .1)))
 
 record Checked (m : Map) (x : State) : Type 0 where
-  good : Good m
+  good : Good (player m)
   long : CellsLong m (x .cells)
 
 checked : (m : Map) (c : Call) (x : State) → numberOf m c x ≡ 0 → Checked m x
 checked m c x e =
     let h = accepted-exactly m c x .1 e in
-    record { good = good-true m (not-false (goodMap m) (h .0)); long = cells-long m x (h .1 .0) }
+    record { good = good-true (player m) (not-false (goodMap (player m)) (h .0)); long = cells-long m x (h .1 .0) }
 
 -- of a pointer cell
 cell-aligned : (m : Map) (x : State) (c : ℕ) → badCell m x c ≡ false → c % 4 ≡ 0
-cell-aligned m x c e = eqb-true (c % 4) 0 (not-false (eqb (c % 4) 0) (or-false (not (eqb (c % 4) 0)) (not (fourInOne (readingAt m (x .shadows) c))) e .0))
+cell-aligned m x c e = eqb-true (c % 4) 0 (not-false (eqb (c % 4) 0) (or-false (not (eqb (c % 4) 0)) (not (fourInOne (readingAt (player m) (x .shadows) c))) e .0))
 
 -- ---- recording
 
 -- a block that is not out of place begins in an area
-placed-in : (m : Map) (h : Beginning) (b l : ℕ) → isMisplaced m (begin h b l) ≡ false → outside m b ≡ false
-placed-in m Unwritten b l e = or-false (outside m b) _ e .0
-placed-in m Written b l e = or-false (outside m b) _ e .0
-placed-in m Literal b l e = or-false (inHeap m b) (outside m b) (or-false (inHeap m b || outside m b) _ e .0) .1
+placed-in : (m : Map) (h : Beginning) (b l : ℕ) → isMisplaced (player m) (begin h b l) ≡ false → outside (player m) b ≡ false
+placed-in m Unwritten b l e = or-false (outside (player m) b) _ e .0
+placed-in m Written b l e = or-false (outside (player m) b) _ e .0
+placed-in m Literal b l e = or-false (inHeap (player m) b) (outside (player m) b) (or-false (inHeap (player m) b || outside (player m) b) _ e .0) .1
 
 pub record-stores : RecordStores
 record-stores m h b l x e =
     let K = checked m (plain (begin h b l)) x e in
     let k = accepted-exactly m (plain (begin h b l)) x .1 e in
-    let o : outside m b ≡ false = placed-in m h b l (k .1 .1 .1 .0) in
-    let d : b % 4 ≡ 0 = eqb-true (b % 4) 0 (not-false (eqb (b % 4) 0) (or-false (isUnaligned m (begin h b l)) (offCell (begin h b l)) (k .1 .1 .1 .1 .0) .1)) in (
+    let o : outside (player m) b ≡ false = placed-in m h b l (k .1 .1 .1 .0) in
+    let d : b % 4 ≡ 0 = eqb-true (b % 4) 0 (not-false (eqb (b % 4) 0) (or-false (isUnaligned (player m) (begin h b l)) (offCell (begin h b l)) (k .1 .1 .1 .1 .0) .1)) in (
       λ q. ap (λ y. byteAt y q) (now m (plain (begin h b l)) x e) ∙ origin-set m (K .good) (x .cells) (K .long) b d o (x .counter) q,
       rw (accepted m (plain (begin h b l)) x e),
     )
@@ -89,13 +90,13 @@ record-stores m h b l x e =
 -- ---- free and remove
 
 -- a block that is read at its base lies in its area
-base-lies : (m : Map) (b : ℕ) (x : State) → isFirst (readingAt m (x .shadows) b) ≡ true → Lies m b (lengthOf (readingAt m (x .shadows) b))
-base-lies m b x = go (readingAt m (x .shadows) b) refl
+base-lies : (m : Map) (b : ℕ) (x : State) → isFirst (readingAt (player m) (x .shadows) b) ≡ true → Lies m b (lengthOf (readingAt (player m) (x .shadows) b))
+base-lies m b x = go (readingAt (player m) (x .shadows) b) refl
   where
-    go : (r : Reading) → readingAt m (x .shadows) b ≡ r → isFirst r ≡ true → Lies m b (lengthOf r)
+    go : (r : Reading) → readingAt (player m) (x .shadows) b ≡ r → isFirst r ≡ true → Lies m b (lengthOf r)
     go nothing q f = absurd (false≢true f)
     go (block c l o w k) q f =
-        let t = blocks-read m (x .shadows) b c l o w k q in
+        let t = blocks-read (player m) (x .shadows) b c l o w k q in
         let z : o ≡ 0 = eqb-true o 0 f in
         record {
           some = omega (arith, t .1);
@@ -106,14 +107,14 @@ base-lies m b x = go (readingAt m (x .shadows) b) refl
 
 -- what an accepted call that ends the block of a base leaves
 zeroes-cells : (m : Map) (c : Call) (b : ℕ) (x : State) → numberOf m c x ≡ 0
-    → cellsAfter (mapRules m) (shadowOps m) (cellOps m) c x ≡ cellOps m .zeroed (x .cells) b (lengthOf (readAny (mapRules m) (shadowOps m) (x .shadows) b))
-    → isFirst (readingAt m (x .shadows) b) ≡ true → ZeroesCells m c b x
+    → cellsAfter (mapRules (player m)) (shadowOps (player m)) (cellOps m) c x ≡ cellOps m .zeroed (x .cells) b (lengthOf (readAny (mapRules (player m)) (shadowOps (player m)) (x .shadows) b))
+    → isFirst (readingAt (player m) (x .shadows) b) ≡ true → ZeroesCells m c b x
 zeroes-cells m c b x e ends f =
     let g = checked m c x e .good in
     let o = base-lies m b x f in
-    let l : ℕ = lengthOf (readingAt m (x .shadows) b) in
+    let l : ℕ = lengthOf (readingAt (player m) (x .shadows) b) in
     let w : cellsLeft m c x ≡ cellOps m .zeroed (x .cells) b l =
-    now m c x e ∙ ends ∙ ap (λ (r : Reading). cellOps m .zeroed (x .cells) b (lengthOf r)) (reading-words m (x .shadows) b) in (
+    now m c x e ∙ ends ∙ ap (λ (r : Reading). cellOps m .zeroed (x .cells) b (lengthOf r)) (reading-words (player m) (x .shadows) b) in (
       λ a i u v k q t. ap (λ y. byteAt y q) w ∙ zeroed-in m g (x .cells) b l o a i u v k q t,
       λ q n. ap (λ y. byteAt y q) w ∙ zeroed-out m g (x .cells) b l o q n,
     )
@@ -121,12 +122,12 @@ zeroes-cells m c b x e ends f =
 pub free-zeroes-cells : FreeZeroesCells
 free-zeroes-cells m b x e =
     let h = accepted-exactly m (plain (free (suc b))) x .1 e in
-    zeroes-cells m (plain (free (suc b))) (suc b) x e refl (not-false (isFirst (readingAt m (x .shadows) (suc b))) (h .1 .1 .1 .1 .1 .1 .1 .1 .0))
+    zeroes-cells m (plain (free (suc b))) (suc b) x e refl (not-false (isFirst (readingAt (player m) (x .shadows) (suc b))) (h .1 .1 .1 .1 .1 .1 .1 .1 .0))
 
 pub remove-zeroes-cells : RemoveZeroesCells
 remove-zeroes-cells m b x e =
     let h = accepted-exactly m (plain (remove b)) x .1 e in
-    zeroes-cells m (plain (remove b)) b x e refl (not-false (isFirst (readingAt m (x .shadows) b)) (h .1 .1 .1 .1 .1 .1 .1 .1 .0))
+    zeroes-cells m (plain (remove b)) b x e refl (not-false (isFirst (readingAt (player m) (x .shadows) b)) (h .1 .1 .1 .1 .1 .1 .1 .1 .0))
 
 -- ---- clear
 
@@ -198,19 +199,19 @@ abbrev AsLong : Cells → Cells → Type 0
 AsLong x y = (length (y .0) ≡ length (x .0)) × (length (y .1) ≡ length (x .1))
 
 module _ (m : Map) where
-  set-long : (x : Cells) (a p q v : ℕ) → AsLong x (writeOne (inHeap m a) (λ h. setHalf h p v) (λ h. setHalf h q v) x)
+  set-long : (x : Cells) (a p q v : ℕ) → AsLong x (writeOne (inHeap (player m) a) (λ h. setHalf h p v) (λ h. setHalf h q v) x)
   unfolding setHalf
-  set-long x a p q v = go (test (inHeap m a))
+  set-long x a p q v = go (test (inHeap (player m) a))
     where
-      go : Test (inHeap m a) → AsLong x (writeOne (inHeap m a) (λ h. setHalf h p v) (λ h. setHalf h q v) x)
+      go : Test (inHeap (player m) a) → AsLong x (writeOne (inHeap (player m) a) (λ h. setHalf h p v) (λ h. setHalf h q v) x)
       go (is-true h) = rw h (length-over p 4 _ (x .0), refl)
       go (is-false h) = rw h (refl, length-over q 4 _ (x .1))
 
   zeroed-long : (x : Cells) (b l : ℕ) → AsLong x (cellOps m .zeroed x b l)
   unfolding zeroCells
-  zeroed-long x b l = go (test (inHeap m b))
+  zeroed-long x b l = go (test (inHeap (player m) b))
     where
-      go : Test (inHeap m b) → AsLong x (cellOps m .zeroed x b l)
+      go : Test (inHeap (player m) b) → AsLong x (cellOps m .zeroed x b l)
       go (is-true h) = rw h (length-over _ _ _ (x .0), refl)
       go (is-false h) = rw h (refl, length-over _ _ _ (x .1))
 
@@ -246,9 +247,9 @@ point-refers m c a x e =
     let K = checked m (point c a) x e in
     let h = accepted-exactly m (point c a) x .1 e in
     let d = cell-aligned m x c (h .1 .1 .1 .1 .1 .1 .1 .1 .1 .0) in
-    let r : ℕ = originOfBlock m (x .cells) (readingAt m (x .shadows) a) in
+    let r : ℕ = originOfBlock m (x .cells) (readingAt (player m) (x .shadows) a) in
     let w : cellsLeft m (point c a) x ≡ cellOps m .setReferent (x .cells) c r =
-    now m (point c a) x e ∙ rw (reading-words m (x .shadows) a, block-words m (K .good) (x .cells) (readingAt m (x .shadows) a)) in (
+    now m (point c a) x e ∙ rw (reading-words (player m) (x .shadows) a, block-words m (K .good) (x .cells) (readingAt (player m) (x .shadows) a)) in (
       λ q. ap (λ y. byteAt y q) w ∙ referent-set m (K .good) (x .cells) (K .long) c d (h .1 .1 .1 .0) r q,
       rw (accepted m (point c a) x e),
     )
@@ -257,7 +258,7 @@ pub copy-refers : CopyRefers
 copy-refers m t f x e =
     let K = checked m (copy t f) x e in
     let h = accepted-exactly m (copy t f) x .1 e in
-    let o = or-false (outside m t) (outside m f) (h .1 .1 .1 .0) in
+    let o = or-false (outside (player m) t) (outside (player m) f) (h .1 .1 .1 .0) in
     let b = or-false (badCell m x t) (badCell m x f) (h .1 .1 .1 .1 .1 .1 .1 .1 .1 .0) in
     let r : ℕ = referentIn m (x .cells) f in
     let w : cellsLeft m (copy t f) x ≡ cellOps m .setReferent (x .cells) t r =
@@ -272,12 +273,12 @@ live-told m c a x e =
     let h = accepted-exactly m (live c a) x .1 e in
     let d = cell-aligned m x c (h .1 .1 .1 .1 .1 .1 .1 .1 .1 .0) in
     let r : ℕ = referentIn m (x .cells) c in
-    let o : ℕ = originOfBlock m (x .cells) (readingAt m (x .shadows) a) in
+    let o : ℕ = originOfBlock m (x .cells) (readingAt (player m) (x .shadows) a) in
     let w : (call m (live c a) x) .1 ≡ yesNo (not (eqb r 0) && eqb o r) =
     rw (
       accepted m (live c a) x e,
-      reading-words m (x .shadows) a,
-      block-words m (K .good) (x .cells) (readingAt m (x .shadows) a),
+      reading-words (player m) (x .shadows) a,
+      block-words m (K .good) (x .cells) (readingAt (player m) (x .shadows) a),
       referent-words m (K .good) (x .cells) c d,
     ) in (
       λ n q. w ∙ rw (ne-eqb r 0 n, eq-eqb o r q),

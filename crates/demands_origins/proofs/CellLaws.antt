@@ -11,6 +11,7 @@ use Rattle.number.specs.Little.{byteOf}
 use Rattle.number.specs.Parts.{at, inPart}
 use Rattle.number.proofs.TestLaws.{Test, is-true, is-false, test, same-test, not-both, false-of, in-true, in-facts}
 use Rattle.map.specs.declared.Map.{Map}
+use Rattle.map.specs.FormMap.{player}
 use Rattle.map.specs.Map.{within}
 use Rattle.map.proofs.MapLaws.{Good, within-true, true-within}
 use Rattle.plain.specs.Join.{writeOne}
@@ -41,19 +42,19 @@ same-area s z a e f =
 pub cell-start : (c : ℕ) → c % 4 ≡ 0 → cellStart c ≡ c
 cell-start c e = omega arith
 
-module _ (m : Map) (g : Good m) where
-  pub same-heap : (a : ℕ) → inHeap m (cellStart a) ≡ inHeap m a
-  same-heap a = same-area (m .«heap_start») (m .«heap_size») a (g .heapStart8) (g .heapSize8)
+module _ (m : Map) (g : Good (player m)) where
+  pub same-heap : (a : ℕ) → inHeap (player m) (cellStart a) ≡ inHeap (player m) a
+  same-heap a = same-area (m .«heap_start») (m .«heap_size») a (g .heapStartWhole) (g .heapSizeWhole)
 
   -- ---- what a cell holds
 
   pub origin-words : (x : Cells) (a : ℕ) → cellOps m .origin x a ≡ originIn m x (cellStart a)
   origin-words x a =
-      rw (same-heap a, origin-place (m .«heap_start») a (g .heapStart8), origin-place (m .«stack_start») a (g .stackStart8))
+      rw (same-heap a, origin-place (m .«heap_start») a (g .heapStartWhole), origin-place (m .«stack_start») a (g .stackStart8))
 
   pub referent-words : (x : Cells) (c : ℕ) → c % 4 ≡ 0 → cellOps m .referent x c ≡ referentIn m x c
   referent-words x c e =
-      rw (referent-place (m .«heap_start») c (g .heapStart8), referent-place (m .«stack_start») c (g .stackStart8), cell-start c e)
+      rw (referent-place (m .«heap_start») c (g .heapStartWhole), referent-place (m .«stack_start») c (g .stackStart8), cell-start c e)
 
   pub block-words : (x : Cells) (r : Reading) → originRead (cellOps m) x r ≡ originOfBlock m x r
   block-words x nothing = refl
@@ -70,25 +71,25 @@ half-set : (h : List ℕ) (p v : ℕ) → p + 4 ≤ length h → (q : ℕ) → a
 unfolding setHalf
 half-set h p v r q = at-written p 4 (λ i. byteOf v (i - p)) h (λ i k l. absurd (omega arith)) q
 
-module _ (m : Map) (g : Good m) (x : Cells) (f : CellsLong m x) (c : ℕ) (e : c % 4 ≡ 0) (o : outside m c ≡ false) where
-  heap-end : inHeap m c ≡ true → 2 * (c - m .«heap_start») + 8 ≤ length (x .0)
+module _ (m : Map) (g : Good (player m)) (x : Cells) (f : CellsLong m x) (c : ℕ) (e : c % 4 ≡ 0) (o : outside (player m) c ≡ false) where
+  heap-end : inHeap (player m) c ≡ true → 2 * (c - m .«heap_start») + 8 ≤ length (x .0)
   heap-end h =
       let u = within-true (m .«heap_start») (m .«heap_size») c h in
-      rw (f .0) (omega (arith, g .heapStart8, g .heapSize8))
+      rw (f .0) (omega (arith, g .heapStartWhole, g .heapSizeWhole))
 
-  stack-end : inHeap m c ≡ false → 2 * (c - m .«stack_start») + 8 ≤ length (x .1)
+  stack-end : inHeap (player m) c ≡ false → 2 * (c - m .«stack_start») + 8 ≤ length (x .1)
   stack-end h =
-      let u = within-true (m .«stack_start») (m .«stack_size») c (not-false (inStack m c) (rw h at o)) in
+      let u = within-true (m .«stack_start») (m .«stack_size») c (not-false (inStack (player m) c) (rw h at o)) in
       rw (f .1) (omega (arith, g .stackStart8, g .stackSize8))
 
   -- the half that begins at byte i
   one-set : (i : ℕ) → i ≤ 4 → (v : ℕ) (q : Place)
-      → byteAt (writeOne (inHeap m c) (λ h. setHalf h (2 * (c - m .«heap_start») + i) v) (λ h. setHalf h (2 * (c - m .«stack_start») + i) v) x) q
+      → byteAt (writeOne (inHeap (player m) c) (λ h. setHalf h (2 * (c - m .«heap_start») + i) v) (λ h. setHalf h (2 * (c - m .«stack_start») + i) v) x) q
       ≡ cond (inCell m c i 4 q) (byteOf v (nth m c i q)) (byteAt x q)
-  one-set i k v q = go q (test (inHeap m c))
+  one-set i k v q = go q (test (inHeap (player m) c))
     where
-      go : (q : Place) → Test (inHeap m c)
-          → byteAt (writeOne (inHeap m c) (λ h. setHalf h (2 * (c - m .«heap_start») + i) v) (λ h. setHalf h (2 * (c - m .«stack_start») + i) v) x) q
+      go : (q : Place) → Test (inHeap (player m) c)
+          → byteAt (writeOne (inHeap (player m) c) (λ h. setHalf h (2 * (c - m .«heap_start») + i) v) (λ h. setHalf h (2 * (c - m .«stack_start») + i) v) x) q
           ≡ cond (inCell m c i 4 q) (byteOf v (nth m c i q)) (byteAt x q)
       go (heapCells q) (is-true h) = rw h (half-set (x .0) (2 * (c - m .«heap_start») + i) v (omega (arith, heap-end h)) q)
       go (heapCells q) (is-false h) = rw h
@@ -97,12 +98,12 @@ module _ (m : Map) (g : Good m) (x : Cells) (f : CellsLong m x) (c : ℕ) (e : c
 
   pub origin-set : (v : ℕ) (q : Place) → byteAt (cellOps m .setOrigin x c v) q ≡ cond (inCell m c 0 4 q) (byteOf v (nth m c 0 q)) (byteAt x q)
   origin-set v q =
-      rw (origin-place (m .«heap_start») c (g .heapStart8), origin-place (m .«stack_start») c (g .stackStart8), cell-start c e)
+      rw (origin-place (m .«heap_start») c (g .heapStartWhole), origin-place (m .«stack_start») c (g .stackStart8), cell-start c e)
       (one-set 0 (omega arith) v q)
 
   pub referent-set : (v : ℕ) (q : Place) → byteAt (cellOps m .setReferent x c v) q ≡ cond (inCell m c 4 4 q) (byteOf v (nth m c 4 q)) (byteAt x q)
   referent-set v q =
-      rw (referent-place (m .«heap_start») c (g .heapStart8), referent-place (m .«stack_start») c (g .stackStart8), cell-start c e)
+      rw (referent-place (m .«heap_start») c (g .heapStartWhole), referent-place (m .«stack_start») c (g .stackStart8), cell-start c e)
       (one-set 4 (omega arith) v q)
 
 -- ---- the cells that touch a block are zeroed
@@ -135,27 +136,27 @@ zero-at h p l q = at-written (p / 4 * 8) (((p + l + 3) / 4 - p / 4) * 8) (λ i. 
 -- the block has a byte, and lies in the area of its base
 pub record Lies (m : Map) (b l : ℕ) : Type 0 where
   pub some : 1 ≤ l
-  pub heap : inHeap m b ≡ true → (m .«heap_start» ≤ b) × (b + l ≤ m .«heap_start» + m .«heap_size»)
-  pub stack : inHeap m b ≡ false → (m .«stack_start» ≤ b) × (b + l ≤ m .«stack_start» + m .«stack_size»)
+  pub heap : inHeap (player m) b ≡ true → (m .«heap_start» ≤ b) × (b + l ≤ m .«heap_start» + m .«heap_size»)
+  pub stack : inHeap (player m) b ≡ false → (m .«stack_start» ≤ b) × (b + l ≤ m .«stack_start» + m .«stack_size»)
 
-module _ (m : Map) (g : Good m) (x : Cells) (b l : ℕ) (o : Lies m b l) where
+module _ (m : Map) (g : Good (player m)) (x : Cells) (b l : ℕ) (o : Lies m b l) where
   -- so do its cells
-  one-area : (a : ℕ) → b ≤ a → a < b + l → inHeap m (cellStart a) ≡ inHeap m b
-  one-area a u v = same-heap m g a ∙ go (test (inHeap m b))
+  one-area : (a : ℕ) → b ≤ a → a < b + l → inHeap (player m) (cellStart a) ≡ inHeap (player m) b
+  one-area a u v = same-heap m g a ∙ go (test (inHeap (player m) b))
     where
-      go : Test (inHeap m b) → inHeap m a ≡ inHeap m b
+      go : Test (inHeap (player m) b) → inHeap (player m) a ≡ inHeap (player m) b
       go (is-true h) = let y = o .heap h in rw h (true-within (m .«heap_start») (m .«heap_size») a (omega arith) (omega arith))
       go (is-false h) =
           let y = o .stack h in
-          rw h (false-of (inHeap m a) (λ t. let w = within-true (m .«heap_start») (m .«heap_size») a t in g .noShare (omega arith) (omega arith)))
+          rw h (false-of (inHeap (player m) a) (λ t. let w = within-true (m .«heap_start») (m .«heap_size») a t in g .noShare (omega arith) (omega arith)))
 
   pub zeroed-in : (a i : ℕ) → b ≤ a → a < b + l → i < 8 → (q : Place) → inCell m (cellStart a) i 1 q ≡ true → byteAt (cellOps m .zeroed x b l) q ≡ 0
-  zeroed-in a i u v w q = go q (test (inHeap m b))
+  zeroed-in a i u v w q = go q (test (inHeap (player m) b))
     where
-      go : (q : Place) → Test (inHeap m b) → inCell m (cellStart a) i 1 q ≡ true → byteAt (cellOps m .zeroed x b l) q ≡ 0
+      go : (q : Place) → Test (inHeap (player m) b) → inCell m (cellStart a) i 1 q ≡ true → byteAt (cellOps m .zeroed x b l) q ≡ 0
       go (heapCells q) (is-true h) t =
           let r : inPart (2 * (cellStart a - m .«heap_start») + i) 1 q ≡ true = rw (one-area a u v, h) at t in
-          rw (h, zero-at (x .0) (b - m .«heap_start») l q, touched (m .«heap_start») b l (g .heapStart8) (o .heap h .0) a i q u v w r)
+          rw (h, zero-at (x .0) (b - m .«heap_start») l q, touched (m .«heap_start») b l (g .heapStartWhole) (o .heap h .0) a i q u v w r)
       go (heapCells q) (is-false h) t = absurd (false≢true (rw (one-area a u v, h) at t))
       go (stackCells q) (is-true h) t = absurd (false≢true (rw (one-area a u v, h) at t))
       go (stackCells q) (is-false h) t =
@@ -164,14 +165,14 @@ module _ (m : Map) (g : Good m) (x : Cells) (b l : ℕ) (o : Lies m b l) where
 
   pub zeroed-out : (q : Place) → ((a i : ℕ) → b ≤ a → a < b + l → i < 8 → inCell m (cellStart a) i 1 q ≡ false)
       → byteAt (cellOps m .zeroed x b l) q ≡ byteAt x q
-  zeroed-out q = go q (test (inHeap m b))
+  zeroed-out q = go q (test (inHeap (player m) b))
     where
-      go : (q : Place) → Test (inHeap m b) → ((a i : ℕ) → b ≤ a → a < b + l → i < 8 → inCell m (cellStart a) i 1 q ≡ false)
+      go : (q : Place) → Test (inHeap (player m) b) → ((a i : ℕ) → b ≤ a → a < b + l → i < 8 → inCell m (cellStart a) i 1 q ≡ false)
           → byteAt (cellOps m .zeroed x b l) q ≡ byteAt x q
       go (heapCells q) (is-true h) n =
-          let z : zeroPart (m .«heap_start») b l (g .heapStart8) (o .heap h .0) q ≡ false =
+          let z : zeroPart (m .«heap_start») b l (g .heapStartWhole) (o .heap h .0) q ≡ false =
           false-of _ (λ t.
-          let (a, u, v, r) = touches (m .«heap_start») b l (g .heapStart8) (o .heap h .0) (o .some) q t in
+          let (a, u, v, r) = touches (m .«heap_start») b l (g .heapStartWhole) (o .heap h .0) (o .some) q t in
           not-both _ (rw (one-area a u v, h) r) (n a (q % 8) u v (omega arith))) in
           rw (h, zero-at (x .0) (b - m .«heap_start») l q, z)
       go (heapCells q) (is-false h) n = rw h

@@ -4,6 +4,7 @@ use mathlib.Core.Logic.{_≢_}
 use Prim.Native.Nat.{ℕ, zero, suc}
 use native.Mathlib.Omega.{arith}
 use Rattle.map.specs.declared.Map.{Map}
+use Rattle.map.specs.FormMap.{player}
 use Rattle.plain.specs.Areas.{mapRules}
 use Rattle.plain.specs.Call.{Answer, number, refusal, firstOf, unless}
 use Rattle.shadows.specs.Shadows.{shadowOps}
@@ -21,7 +22,7 @@ unfolding call
 refused-alters-nothing m c x h = go (firstOf (refusals m c x)) h
   where
     does : ℕ → State × Answer
-    does k = unless k x (stateAfter (mapRules m) (shadowOps m) (cellOps m) c x, stateAnswer (mapRules m) (shadowOps m) (cellOps m) c x)
+    does k = unless k x (stateAfter (mapRules (player m)) (shadowOps (player m)) (cellOps m) c x, stateAnswer (mapRules (player m)) (shadowOps (player m)) (cellOps m) c x)
 
     go : (k : ℕ) → number ((does k) .1) ≢ 0 → does k ≡ (x, refusal (number ((does k) .1)))
     go zero h = absurd (h (answered-0 m c x))

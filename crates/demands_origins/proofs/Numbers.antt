@@ -6,6 +6,7 @@ use Prim.Native.Nat.{ℕ, zero, suc, _*_, _%_}
 use lib.ListN.{length}
 use lib.Dec.{eqb}
 use Rattle.map.specs.declared.Map.{Map}
+use Rattle.map.specs.FormMap.{player}
 use Rattle.map.specs.Map.{goodMap}
 use Rattle.plain.specs.Areas.{mapRules}
 use Rattle.plain.specs.Reading.{Reading, nothing, block, damaged}
@@ -28,8 +29,8 @@ use Rattle.demands_origins.specs.Demand1.{numberOf}
 -- ---- the first condition that holds
 
 -- what a call answers where it is not refused has number 0
-pub answered-0 : (m : Map) (c : Call) (x : State) → number (stateAnswer (mapRules m) (shadowOps m) (cellOps m) c x) ≡ 0
-answered-0 m (plain c) x = accepted-0 (mapRules m) (shadowOps m) c (x .shadows)
+pub answered-0 : (m : Map) (c : Call) (x : State) → number (stateAnswer (mapRules (player m)) (shadowOps (player m)) (cellOps m) c x) ≡ 0
+answered-0 m (plain c) x = accepted-0 (mapRules (player m)) (shadowOps (player m)) c (x .shadows)
 answered-0 m (point c a) x = refl
 answered-0 m (copy t f) x = refl
 answered-0 m (live c a) x = refl
@@ -49,9 +50,9 @@ not-and : (p q : Bool) → not (p && q) ≡ (not p || not q)
 not-and true q = refl
 not-and false q = refl
 
-pub pointer-words : (m : Map) (x : State) (c : ℕ) → not (isPointer (mapRules m) (shadowOps m) (cellOps m) x c) ≡ badCell m x c
+pub pointer-words : (m : Map) (x : State) (c : ℕ) → not (isPointer (mapRules (player m)) (shadowOps (player m)) (cellOps m) x c) ≡ badCell m x c
 pointer-words m x c =
-    rw (reading-words m (x .shadows) c, four-words (readingAt m (x .shadows) c)) (not-and (eqb (c % 4) 0) (fourInOne (readingAt m (x .shadows) c)))
+    rw (reading-words (player m) (x .shadows) c, four-words (readingAt (player m) (x .shadows) c)) (not-and (eqb (c % 4) 0) (fourInOne (readingAt (player m) (x .shadows) c)))
 
 -- ---- the rows
 
@@ -60,26 +61,26 @@ pub either-of : (n : ℕ) (p q : Bool) (k : ℕ) → cond p n (cond q n k) ≡ c
 either-of n true q k = refl
 either-of n false q k = refl
 
-pub later-rows : (m : Map) → goodMap m ≡ true → (c : Call) (x : State) → firstOf (byState (mapRules m) (shadowOps m) (cellOps m) c x) ≡ firstOf (pastTwo (rows m c x))
+pub later-rows : (m : Map) → goodMap (player m) ≡ true → (c : Call) (x : State) → firstOf (byState (mapRules (player m)) (shadowOps (player m)) (cellOps m) c x) ≡ firstOf (pastTwo (rows m c x))
 later-rows m ok (plain clear) x = refl
 later-rows m ok (plain (begin h b l)) x =
-    rw (misplaced-words m h b l, unaligned-words m b, taken-words m (x .shadows) b l, either-of 5 _ (offCell (begin h b l)) _)
+    rw (misplaced-words (player m) h b l, unaligned-words (player m) b, taken-words (player m) (x .shadows) b l, either-of 5 _ (offCell (begin h b l)) _)
 later-rows m ok (plain (free zero)) x = refl
-later-rows m ok (plain (free (suc b))) x = base.later-rows m ok (free (suc b)) (x .shadows)
-later-rows m ok (plain (remove b)) x = base.later-rows m ok (remove b) (x .shadows)
-later-rows m ok (plain (written a n)) x = base.later-rows m ok (written a n) (x .shadows)
-later-rows m ok (plain (ask a)) x = base.later-rows m ok (ask a) (x .shadows)
-later-rows m ok (plain (valid w a n from)) x = base.later-rows m ok (valid w a n from) (x .shadows)
-later-rows m ok (plain (initialised a n)) x = base.later-rows m ok (initialised a n) (x .shadows)
-later-rows m ok (plain (next a)) x = base.later-rows m ok (next a) (x .shadows)
+later-rows m ok (plain (free (suc b))) x = base.later-rows (player m) ok (free (suc b)) (x .shadows)
+later-rows m ok (plain (remove b)) x = base.later-rows (player m) ok (remove b) (x .shadows)
+later-rows m ok (plain (written a n)) x = base.later-rows (player m) ok (written a n) (x .shadows)
+later-rows m ok (plain (ask a)) x = base.later-rows (player m) ok (ask a) (x .shadows)
+later-rows m ok (plain (valid w a n from)) x = base.later-rows (player m) ok (valid w a n from) (x .shadows)
+later-rows m ok (plain (initialised a n)) x = base.later-rows (player m) ok (initialised a n) (x .shadows)
+later-rows m ok (plain (next a)) x = base.later-rows (player m) ok (next a) (x .shadows)
 later-rows m ok (plain audit) x = refl
-later-rows m ok (plain (place l k)) x = base.later-rows m ok (place l k) (x .shadows)
+later-rows m ok (plain (place l k)) x = base.later-rows (player m) ok (place l k) (x .shadows)
 later-rows m ok (point c a) x =
-    rw (pointer-words m x c, outside-words m c, reading-words m (x .shadows) c, reading-words m (x .shadows) a)
+    rw (pointer-words m x c, outside-words (player m) c, reading-words (player m) (x .shadows) c, reading-words (player m) (x .shadows) a)
 later-rows m ok (copy t f) x =
-    rw (pointer-words m x t, pointer-words m x f, outside-words m t, outside-words m f, reading-words m (x .shadows) t, reading-words m (x .shadows) f)
+    rw (pointer-words m x t, pointer-words m x f, outside-words (player m) t, outside-words (player m) f, reading-words (player m) (x .shadows) t, reading-words (player m) (x .shadows) f)
 later-rows m ok (live c a) x =
-    rw (pointer-words m x c, outside-words m c, reading-words m (x .shadows) c, reading-words m (x .shadows) a)
+    rw (pointer-words m x c, outside-words (player m) c, reading-words (player m) (x .shadows) c, reading-words (player m) (x .shadows) a)
 
 -- 2 of the shadows and of the cells are one row
 lengths-row : (l p q : Bool) (k : ℕ) → cond (not l) 2 (cond (not (p && q)) 2 k) ≡ cond (not l || not p || not q) 2 k
@@ -90,10 +91,10 @@ lengths-row false p q k = refl
 same-rows : (m : Map) (c : Call) (x : State) → firstOf (refusals m c x) ≡ firstOf (rows m c x)
 unfolding cellsFit
 same-rows m c x =
-    base.by-goodness (goodMap m) _ _
+    base.by-goodness (goodMap (player m)) _ _
     (λ ok. rw (
       later-rows m ok c x,
-      lengths-row (lengthsFit m (x .shadows)) (eqb (length (x .cells .0)) (2 * m .«heap_size»)) (eqb (length (x .cells .1)) (2 * m .«stack_size»)) _,
+      lengths-row (lengthsFit (player m) (x .shadows)) (eqb (length (x .cells .0)) (2 * m .«heap_size»)) (eqb (length (x .cells .1)) (2 * m .«stack_size»)) _,
     ))
 
 pub by-rows : (m : Map) (c : Call) (x : State) → numberOf m c x ≡ firstOf (rows m c x)

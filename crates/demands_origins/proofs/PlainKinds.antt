@@ -9,6 +9,7 @@ use borrow.Author.Tests.{ne-eqb}
 use Rattle.number.specs.Parts.{Each}
 use Rattle.number.proofs.TestLaws.{Test, is-true, is-false, test}
 use Rattle.map.specs.declared.Map.{Map}
+use Rattle.map.specs.FormMap.{player}
 use Rattle.map.specs.Map.{goodMap}
 use Rattle.plain.specs.Areas.{mapRules}
 use Rattle.plain.specs.Call as base
@@ -64,14 +65,14 @@ other k = sym (go (eqb k 1 || eqb k 2) (eqb k 0 || eqb k 6) (eqb k 0))
 module _ (m : Map) (x : State) where
   -- the plain form's number, under a good map and right lengths
   abbrev later : base.Call → ℕ
-  later c = firstOf (byRules (mapRules m) c ++ byShadows (mapRules m) (shadowOps m) c (x .shadows))
+  later c = firstOf (byRules (mapRules (player m)) c ++ byShadows (mapRules (player m)) (shadowOps (player m)) c (x .shadows))
 
   rest : (c : base.Call)
-      → firstOf (byState (mapRules m) (shadowOps m) (cellOps m) (plain c) x) ≡ fromPlain (later c) true (offCell c) (outOfRange c (x .counter))
+      → firstOf (byState (mapRules (player m)) (shadowOps (player m)) (cellOps m) (plain c) x) ≡ fromPlain (later c) true (offCell c) (outOfRange c (x .counter))
   rest clear = other (later clear)
   rest (begin h b l) =
-      recording (eqb l 0) (not (allows (mapRules m) h b l)) (not (mapRules m .aligned b)) (offCell (begin h b l))
-      (not (shadowOps m .vacant (x .shadows) b l)) (outOfRange (begin h b l) (x .counter))
+      recording (eqb l 0) (not (allows (mapRules (player m)) h b l)) (not (mapRules (player m) .aligned b)) (offCell (begin h b l))
+      (not (shadowOps (player m) .vacant (x .shadows) b l)) (outOfRange (begin h b l) (x .counter))
   rest (free zero) = other (later (free zero))
   rest (free (suc b)) = other (later (free (suc b)))
   rest (remove b) = other (later (remove b))
@@ -85,12 +86,12 @@ module _ (m : Map) (x : State) where
 
   by-conditions : (c : base.Call)
       → firstOf (refusals m (plain c) x)
-      ≡ fromPlain (firstOf (monitor.refusals m c (x .shadows))) (cellsFit m (x .cells)) (offCell c) (outOfRange c (x .counter))
-  by-conditions c = go (test (goodMap m)) (test (lengthsFit m (x .shadows))) (test (cellsFit m (x .cells)))
+      ≡ fromPlain (firstOf (monitor.refusals (player m) c (x .shadows))) (cellsFit m (x .cells)) (offCell c) (outOfRange c (x .counter))
+  by-conditions c = go (test (goodMap (player m))) (test (lengthsFit (player m) (x .shadows))) (test (cellsFit m (x .cells)))
     where
-      go : Test (goodMap m) → Test (lengthsFit m (x .shadows)) → Test (cellsFit m (x .cells))
+      go : Test (goodMap (player m)) → Test (lengthsFit (player m) (x .shadows)) → Test (cellsFit m (x .cells))
           → firstOf (refusals m (plain c) x)
-          ≡ fromPlain (firstOf (monitor.refusals m c (x .shadows))) (cellsFit m (x .cells)) (offCell c) (outOfRange c (x .counter))
+          ≡ fromPlain (firstOf (monitor.refusals (player m) c (x .shadows))) (cellsFit m (x .cells)) (offCell c) (outOfRange c (x .counter))
       go (is-false g) l f = rw g
       go (is-true g) (is-false l) f = rw (g, l)
       go (is-true g) (is-true l) (is-false f) =
@@ -98,13 +99,13 @@ module _ (m : Map) (x : State) where
             g,
             l,
             f,
-            before.later-rows m g c (x .shadows),
-            neither (pastTwo (rows m c (x .shadows))) (omega arith, (omega arith, (omega arith, (omega arith, (omega arith, (omega arith, (omega arith, (omega arith, (omega arith, tt))))))))),
+            before.later-rows (player m) g c (x .shadows),
+            neither (pastTwo (rows (player m) c (x .shadows))) (omega arith, (omega arith, (omega arith, (omega arith, (omega arith, (omega arith, (omega arith, (omega arith, (omega arith, tt))))))))),
           )
       go (is-true g) (is-true l) (is-true f) = rw (g, l, f) (rest c)
 
 pub plain-numbers : PlainNumbers
-plain-numbers m c x = number-first m (plain c) x ∙ by-conditions m x c ∙ rw (before.number-first m c (x .shadows))
+plain-numbers m c x = number-first m (plain c) x ∙ by-conditions m x c ∙ rw (before.number-first (player m) c (x .shadows))
 
 -- ---- where it is accepted
 
@@ -123,15 +124,15 @@ pub plain-accepted : PlainAccepted
 unfolding call monitor.call
 plain-accepted m c x e =
     let z : firstOf (refusals m (plain c) x) ≡ 0 = sym (number-first m (plain c) x) ∙ e in
-    let y : firstOf (monitor.refusals m c (x .shadows)) ≡ 0 =
+    let y : firstOf (monitor.refusals (player m) c (x .shadows)) ≡ 0 =
     from-0 _ (cellsFit m (x .cells)) (offCell c) (outOfRange c (x .counter)) (sym (by-conditions m x c) ∙ z) in
     rw (z, y) (refl, refl)
 
 pub audit-plain : AuditPlain
 unfolding call monitor.call
-audit-plain m x f = rw f (go (firstOf (monitor.refusals m audit (x .shadows))))
+audit-plain m x f = rw f (go (firstOf (monitor.refusals (player m) audit (x .shadows))))
   where
-    go : (k : ℕ) → _≡_ {A = State × Answer} (unless k x (x, shadowAnswer (mapRules m) (shadowOps m) audit (x .shadows)))
-        (x, (unless k (x .shadows) (x .shadows, shadowAnswer (mapRules m) (shadowOps m) audit (x .shadows))) .1)
+    go : (k : ℕ) → _≡_ {A = State × Answer} (unless k x (x, shadowAnswer (mapRules (player m)) (shadowOps (player m)) audit (x .shadows)))
+        (x, (unless k (x .shadows) (x .shadows, shadowAnswer (mapRules (player m)) (shadowOps (player m)) audit (x .shadows))) .1)
     go zero = refl
     go (suc k) = refl

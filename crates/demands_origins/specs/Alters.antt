@@ -8,6 +8,7 @@ use lib.ListN.{length}
 use Rattle.number.specs.Little.{byteOf, word}
 use Rattle.number.specs.Parts.{at, inPart}
 use Rattle.map.specs.declared.Map.{Map}
+use Rattle.map.specs.FormMap.{player}
 use Rattle.plain.specs.declared.Beginning.{Beginning}
 use Rattle.plain.specs.Reading.{Reading, nothing, block, damaged}
 use Rattle.plain.specs.Call.{clear, begin, free, remove, written, ask, valid, initialised, next, audit, place, answer}
@@ -30,8 +31,8 @@ byteAt x (stackCells q) = at (x .1) q
 
 -- it is one of the n bytes from byte `first` on of the cell at an address: "the cell of the address c at twice its position in its area"
 abbrev pub inCell : Map → (cell first n : ℕ) → Place → Bool
-inCell m c i n (heapCells q) = inHeap m c && inPart (2 * (c - m .«heap_start») + i) n q
-inCell m c i n (stackCells q) = not (inHeap m c) && inPart (2 * (c - m .«stack_start») + i) n q
+inCell m c i n (heapCells q) = inHeap (player m) c && inPart (2 * (c - m .«heap_start») + i) n q
+inCell m c i n (stackCells q) = not (inHeap (player m) c) && inPart (2 * (c - m .«stack_start») + i) n q
 
 -- which byte of those it is
 abbrev pub nth : Map → (cell first : ℕ) → Place → ℕ
@@ -43,7 +44,7 @@ abbrev pub cellStart : ℕ → ℕ
 cellStart a = a - a % 4
 
 abbrev pub numberIn : Map → Cells → (cell first : ℕ) → ℕ
-numberIn m x c i = cond (inHeap m c) (word (at (x .0)) (2 * (c - m .«heap_start») + i) 4) (word (at (x .1)) (2 * (c - m .«stack_start») + i) 4)
+numberIn m x c i = cond (inHeap (player m) c) (word (at (x .0)) (2 * (c - m .«heap_start») + i) 4) (word (at (x .1)) (2 * (c - m .«stack_start») + i) 4)
 
 abbrev pub originIn : Map → Cells → ℕ → ℕ
 originIn m x c = numberIn m x c 0
@@ -73,10 +74,10 @@ RecordStores =
 -- both halves of each cell that has one of the addresses of the block that is read at b are zero after a call, and no other byte is altered
 abbrev pub ZeroesCells : Map → Call → (b : ℕ) → State → Type 0
 ZeroesCells m c b x =
-    ((a i : ℕ) → b ≤ a → a < b + lengthOf (readingAt m (x .shadows) b) → i < 8 → (q : Place) → inCell m (cellStart a) i 1 q ≡ true
+    ((a i : ℕ) → b ≤ a → a < b + lengthOf (readingAt (player m) (x .shadows) b) → i < 8 → (q : Place) → inCell m (cellStart a) i 1 q ≡ true
     → byteAt (cellsLeft m c x) q ≡ 0)
     × ((q : Place)
-    → ((a i : ℕ) → b ≤ a → a < b + lengthOf (readingAt m (x .shadows) b) → i < 8 → inCell m (cellStart a) i 1 q ≡ false)
+    → ((a i : ℕ) → b ≤ a → a < b + lengthOf (readingAt (player m) (x .shadows) b) → i < 8 → inCell m (cellStart a) i 1 q ≡ false)
     → byteAt (cellsLeft m c x) q ≡ byteAt (x .cells) q)
 
 -- "Freeing zeroes each cell that touches the block"
@@ -143,7 +144,7 @@ Refers m c x at-cell r =
 abbrev pub PointRefers : Type 0
 PointRefers =
     (m : Map) (c a : ℕ) (x : State) → numberOf m (point c a) x ≡ 0
-    → Refers m (point c a) x c (originOfBlock m (x .cells) (readingAt m (x .shadows) a)) × ((call m (point c a) x) .1 ≡ answer 0 0 0 0 0)
+    → Refers m (point c a) x c (originOfBlock m (x .cells) (readingAt (player m) (x .shadows) a)) × ((call m (point c a) x) .1 ≡ answer 0 0 0 0 0)
 
 -- "Kind 12 (to, from) copies a referent"
 abbrev pub CopyRefers : Type 0
@@ -155,7 +156,7 @@ CopyRefers =
 abbrev pub LiveTold : Type 0
 LiveTold =
     (m : Map) (c a : ℕ) (x : State) → numberOf m (live c a) x ≡ 0
-    → (referentIn m (x .cells) c ≢ 0 → originOfBlock m (x .cells) (readingAt m (x .shadows) a) ≡ referentIn m (x .cells) c
+    → (referentIn m (x .cells) c ≢ 0 → originOfBlock m (x .cells) (readingAt (player m) (x .shadows) a) ≡ referentIn m (x .cells) c
     → (call m (live c a) x) .1 ≡ answer 0 1 0 0 0)
     × (referentIn m (x .cells) c ≡ 0 → (call m (live c a) x) .1 ≡ answer 0 0 0 0 0)
-    × (originOfBlock m (x .cells) (readingAt m (x .shadows) a) ≢ referentIn m (x .cells) c → (call m (live c a) x) .1 ≡ answer 0 0 0 0 0)
+    × (originOfBlock m (x .cells) (readingAt (player m) (x .shadows) a) ≢ referentIn m (x .cells) c → (call m (live c a) x) .1 ≡ answer 0 0 0 0 0)

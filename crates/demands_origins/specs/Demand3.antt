@@ -10,6 +10,7 @@ use mathlib.Core.List.{List, [], _∷_}
 use Prim.Native.Nat.{ℕ, _%_, _≤_}
 use Rattle.number.specs.Parts.{Each}
 use Rattle.map.specs.declared.Map.{Map}
+use Rattle.map.specs.FormMap.{player}
 use Rattle.map.specs.Map.{goodMap}
 use Rattle.plain.specs.Areas.{mapRules}
 use Rattle.plain.specs.Call.{clear, Answer, answer, number}
@@ -29,7 +30,7 @@ stateRun m x cs = run (λ (y : State). y) (call m) x cs
 
 -- the answer of the plain list of this form, and its image, after each call
 abbrev pub listRun : Map → OriginList → List Call → List (Answer × State)
-listRun m x cs = run (imageOf m) (originStep (mapRules m)) x cs
+listRun m x cs = run (imageOf m) (originStep (mapRules (player m))) x cs
 
 -- the state, and the list, after a list of calls
 unfoldable pub stateReached : Map → State → List Call → State
@@ -38,7 +39,7 @@ stateReached m x (c ∷ cs) = stateReached m ((call m c x) .0) cs
 
 unfoldable pub listReached : Map → OriginList → List Call → OriginList
 listReached m x [] = x
-listReached m x (c ∷ cs) = listReached m ((originStep (mapRules m) c x) .0) cs
+listReached m x (c ∷ cs) = listReached m ((originStep (mapRules (player m)) c x) .0) cs
 
 -- a run begins with the answer and the state of its first call, and goes on from what that left; so does the list's. What is reached after no call
 -- is where it began, and after one more it is what that leaves
@@ -51,35 +52,35 @@ RunsEachCall =
     × ((x : OriginList)
     → (listRun m x [] ≡ [])
     × (listRun m x (c ∷ cs)
-    ≡ ((originStep (mapRules m) c x) .1, imageOf m ((originStep (mapRules m) c x) .0)) ∷ listRun m ((originStep (mapRules m) c x) .0) cs)
-    × (listReached m x [] ≡ x) × (listReached m x (c ∷ cs) ≡ listReached m ((originStep (mapRules m) c x) .0) cs))
+    ≡ ((originStep (mapRules (player m)) c x) .1, imageOf m ((originStep (mapRules (player m)) c x) .0)) ∷ listRun m ((originStep (mapRules (player m)) c x) .0) cs)
+    × (listReached m x [] ≡ x) × (listReached m x (c ∷ cs) ≡ listReached m ((originStep (mapRules (player m)) c x) .0) cs))
 
 -- one claim about the whole list of calls: the number, every field, every shadow byte, every byte of the cells and the counter after each call
 abbrev pub WholeRun : Type 0
-WholeRun = (m : Map) → goodMap m ≡ true → (cs : List Call) → stateRun m (firstState m) cs ≡ listRun m firstList cs
+WholeRun = (m : Map) → goodMap (player m) ≡ true → (cs : List Call) → stateRun m (firstState m) cs ≡ listRun m firstList cs
 
 -- 8 is never given
 abbrev pub NoDamage : Type 0
-NoDamage = (m : Map) → goodMap m ≡ true → (cs : List Call) → Each (λ (r : Answer × State). number (r .0) ≢ 8) (stateRun m (firstState m) cs)
+NoDamage = (m : Map) → goodMap (player m) ≡ true → (cs : List Call) → Each (λ (r : Answer × State). number (r .0) ≢ 8) (stateRun m (firstState m) cs)
 
 -- on what stands for every list that carries what it should, reached by calls or not, every call does what the list does
 abbrev pub OnEveryImage : Type 0
 OnEveryImage =
-    (m : Map) → goodMap m ≡ true → (x : OriginList) → Carries (mapRules m) x → (c : Call)
-    → call m c (imageOf m x) ≡ (imageOf m ((originStep (mapRules m) c x) .0), (originStep (mapRules m) c x) .1)
+    (m : Map) → goodMap (player m) ≡ true → (x : OriginList) → Carries (mapRules (player m)) x → (c : Call)
+    → call m c (imageOf m x) ≡ (imageOf m ((originStep (mapRules (player m)) c x) .0), (originStep (mapRules (player m)) c x) .1)
 
 -- and the list carries what it should after every call: at first too, wherever the counter stands from 1 to 4,294,967,296, where it ends
 abbrev pub StaysCarried : Type 0
 StaysCarried =
-    (m : Map) → goodMap m ≡ true
-    → ((k : ℕ) → 1 ≤ k → k ≤ 4294967296 → Carries (mapRules m) (firstListAt k))
-    × ((x : OriginList) → Carries (mapRules m) x → (c : Call) → Carries (mapRules m) ((originStep (mapRules m) c x) .0))
+    (m : Map) → goodMap (player m) ≡ true
+    → ((k : ℕ) → 1 ≤ k → k ≤ 4294967296 → Carries (mapRules (player m)) (firstListAt k))
+    × ((x : OriginList) → Carries (mapRules (player m)) x → (c : Call) → Carries (mapRules (player m)) ((originStep (mapRules (player m)) c x) .0))
 
 -- "clear zeroes all cells; clear and refusals leave the counter": clear makes the first state of any bytes of the right lengths, but for the
 -- counter, so that a run that begins with clear is the plain list's too, from any bytes, with the counter that it found
 abbrev pub ClearedRun : Type 0
 ClearedRun =
-    (m : Map) → goodMap m ≡ true → (x : State) → lengthsFit m (x .shadows) ≡ true → cellsFit m (x .cells) ≡ true
+    (m : Map) → goodMap (player m) ≡ true → (x : State) → lengthsFit (player m) (x .shadows) ≡ true → cellsFit m (x .cells) ≡ true
     → (call m (plain clear) x ≡ (firstStateAt m (x .counter), answer 0 0 0 0 0))
     × (1 ≤ x .counter → x .counter ≤ 4294967296 → (cs : List Call)
     → stateRun m x (plain clear ∷ cs) ≡ listRun m (firstListAt (x .counter)) (plain clear ∷ cs))
@@ -87,13 +88,13 @@ ClearedRun =
 -- what is reached, wherever the counter stood at first, stands for what the list reached, which carries what it should (origins_list, Carries.antt)
 abbrev pub ReachedCarries : Type 0
 ReachedCarries =
-    (m : Map) → goodMap m ≡ true → (k : ℕ) → 1 ≤ k → k ≤ 4294967296 → (cs : List Call)
-    → (stateReached m (firstStateAt m k) cs ≡ imageOf m (listReached m (firstListAt k) cs)) × Carries (mapRules m) (listReached m (firstListAt k) cs)
+    (m : Map) → goodMap (player m) ≡ true → (k : ℕ) → 1 ≤ k → k ≤ 4294967296 → (cs : List Call)
+    → (stateReached m (firstStateAt m k) cs ≡ imageOf m (listReached m (firstListAt k) cs)) × Carries (mapRules (player m)) (listReached m (firstListAt k) cs)
 
 -- "After each call the cells hold exactly these: a live block's origin at its base's cell, a set pointer's referent at its own, zero elsewhere":
 -- each cell of the areas, its two numbers of four bytes, are those of the list, which is 0 elsewhere (`ReachedCarries`)
 abbrev pub CellsHold : Type 0
 CellsHold =
-    (m : Map) → goodMap m ≡ true → (k : ℕ) → 1 ≤ k → k ≤ 4294967296 → (cs : List Call) (c : ℕ) → outside m c ≡ false → c % 4 ≡ 0
+    (m : Map) → goodMap (player m) ≡ true → (k : ℕ) → 1 ≤ k → k ≤ 4294967296 → (cs : List Call) (c : ℕ) → outside (player m) c ≡ false → c % 4 ≡ 0
     → (originIn m (stateReached m (firstStateAt m k) cs .cells) c ≡ listReached m (firstListAt k) cs .origin c)
     × (referentIn m (stateReached m (firstStateAt m k) cs .cells) c ≡ listReached m (firstListAt k) cs .referent c)

@@ -8,6 +8,7 @@ use Prim.Native.Nat.{ℕ, _+_, _≤_}
 use lib.Dec.{eqb}
 use Rattle.number.specs.Bits.{bit}
 use Rattle.map.specs.declared.Map.{Map}
+use Rattle.map.specs.FormMap.{player}
 use Rattle.map.specs.Map.{goodMap}
 use Rattle.plain.specs.Call.{answer}
 use Rattle.origins_list.specs.Call.{Call, live}
@@ -31,12 +32,12 @@ HistoryEachCall =
 -- left it): whatever its number, the answer field of kind 13 is what the history says, 1 or 0
 abbrev pub JudgedByHistory : Type 0
 JudgedByHistory =
-    (m : Map) → goodMap m ≡ true → (k : ℕ) → 1 ≤ k → k ≤ 4294967296 → (before : List Call) (c a : ℕ)
+    (m : Map) → goodMap (player m) ≡ true → (k : ℕ) → 1 ≤ k → k ≤ 4294967296 → (before : List Call) (c a : ℕ)
     → (call m (live c a) (stateReached m (firstStateAt m k) before)) .1
     ≡ answer (numberOf m (live c a) (stateReached m (firstStateAt m k) before)) (bit (judged (history m (firstStateAt m k) [] before) c a)) 0 0 0
 
 -- so 12 follows from the history too: the counter has gone up by one for each accepted recording
 abbrev pub CounterCounts : Type 0
 CounterCounts =
-    (m : Map) → goodMap m ≡ true → (k : ℕ) → 1 ≤ k → k ≤ 4294967296 → (before : List Call)
+    (m : Map) → goodMap (player m) ≡ true → (k : ℕ) → 1 ≤ k → k ≤ 4294967296 → (before : List Call)
     → stateReached m (firstStateAt m k) before .counter ≡ k + recordings (history m (firstStateAt m k) [] before)

@@ -5,6 +5,7 @@ use mathlib.Core.Bool.{Bool, true, cond, not, _&&_, _||_}
 use Prim.Native.Nat.{ℕ}
 use lib.Dec.{eqb}
 use Rattle.map.specs.declared.Map.{Map}
+use Rattle.map.specs.FormMap.{player}
 use Rattle.plain.specs.Call as base
 use Rattle.plain.specs.Call.{audit}
 use Rattle.monitor_base.specs.Calls as monitor
@@ -24,15 +25,15 @@ fromPlain k cells off out =
 abbrev pub PlainNumbers : Type 0
 PlainNumbers =
     (m : Map) (c : base.Call) (x : State)
-    → numberOf m (plain c) x ≡ fromPlain (before.numberOf m c (x .shadows)) (cellsFit m (x .cells)) (offCell c) (outOfRange c (x .counter))
+    → numberOf m (plain c) x ≡ fromPlain (before.numberOf (player m) c (x .shadows)) (cellsFit m (x .cells)) (offCell c) (outOfRange c (x .counter))
 
 -- where it is accepted, the fields and the three block shadows are those of the plain form
 abbrev pub PlainAccepted : Type 0
 PlainAccepted =
     (m : Map) (c : base.Call) (x : State) → numberOf m (plain c) x ≡ 0
-    → ((call m (plain c) x) .1 ≡ (monitor.call m c (x .shadows)) .1) × ((call m (plain c) x) .0 .shadows ≡ (monitor.call m c (x .shadows)) .0)
+    → ((call m (plain c) x) .1 ≡ (monitor.call (player m) c (x .shadows)) .1) × ((call m (plain c) x) .0 .shadows ≡ (monitor.call (player m) c (x .shadows)) .0)
 
 -- "Here image and audit are the plain form's, over the three block shadows alone": whatever the cells hold and wherever the counter stands
 abbrev pub AuditPlain : Type 0
 AuditPlain =
-    (m : Map) (x : State) → cellsFit m (x .cells) ≡ true → call m (plain audit) x ≡ (x, (monitor.call m audit (x .shadows)) .1)
+    (m : Map) (x : State) → cellsFit m (x .cells) ≡ true → call m (plain audit) x ≡ (x, (monitor.call (player m) audit (x .shadows)) .1)

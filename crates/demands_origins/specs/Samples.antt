@@ -9,6 +9,7 @@ use lib.ListN.{replicate}
 use lib.Dec.{eqb}
 use Rattle.plain.specs.Call.{record-block, record-written, record-literal, free, remove, written, ask, valid-write, valid-read, audit, clear, Answer, answer, refusal, done, yesNo}
 use Rattle.demands.specs.GivenShadows.{Part, put}
+use Rattle.map.specs.FormMap.{areas}
 use Rattle.demands.specs.Samples.{sampleMap, sameAnswer, sameBytes}
 use Rattle.origins_list.specs.Call.{Call, plain, point, copy, live}
 use Rattle.origins_base.specs.Calls.{State, call, firstState}
@@ -31,7 +32,7 @@ unfoldable pub runHolds : Sample → State → List Call → List Answer → Boo
 runHolds x y [] [] = leaves x y
 runHolds x y [] (r ∷ rs) = false
 runHolds x y (c ∷ cs) [] = false
-runHolds x y (c ∷ cs) (r ∷ rs) = let after = call sampleMap c y in sameAnswer (after .1) r && runHolds x (after .0) cs rs
+runHolds x y (c ∷ cs) (r ∷ rs) = let after = call (areas sampleMap) c y in sameAnswer (after .1) r && runHolds x (after .0) cs rs
 
 unfoldable pub allHold : List Sample → Bool
 allHold [] = true
@@ -40,7 +41,7 @@ allHold (x ∷ xs) = runHolds x (x .first) (x .calls) (x .answers) && allHold xs
 -- ---- where runs begin
 
 abbrev begun : State
-begun = firstState sampleMap
+begun = firstState (areas sampleMap)
 
 -- primary bytes, stack cells and counter; all else is zero
 abbrev given : (primary stackCells : List Part) → (counter : ℕ) → State

@@ -1,9 +1,9 @@
 // The audit of a heap shadow, segment by segment.
 mod walk;
 
+use heap_audit_laws::Moved;
+use heap_audit_laws::Walk;
 use plain::Audit;
-use walk::Moved;
-use walk::Walk;
 ghost use mathlib.Core.Path.{_≡_};
 ghost use Prim.Native.Nat.{_%_, _≤_};
 ghost use lib.ListN.{length};

@@ -29,6 +29,7 @@ ended g p need k =
     (cond (isBetter g need) (record { looked = g .looked + 1; start = p - g .run; bytes = g .run; run = 0 })
     (record { looked = g .looked + 1; start = g .start; bytes = g .bytes; run = 0 }))
 
-abbrev pub turned : Scan → (p w need budget : ℕ) → Scan
-turned g p w need k =
-    cond (eqb w 0) (record { looked = g .looked; start = g .start; bytes = g .bytes; run = g .run + 8 }) (ended g p need k)
+-- over a segment of G bytes at p, which is free where w is 0
+abbrev pub turned : (G : ℕ) → Scan → (p w need budget : ℕ) → Scan
+turned G g p w need k =
+    cond (eqb w 0) (record { looked = g .looked; start = g .start; bytes = g .bytes; run = g .run + G }) (ended g p need k)

@@ -1,4 +1,4 @@
-// One gap of a heap, and one segment of the pass that finds it: segments of 8 bytes.
+// One gap of a heap, in either form, and one segment of the pass that finds it, of 8 bytes.
 ghost use mathlib.Core.Path.{_≡_};
 ghost use Prim.Native.Nat.{_≤_};
 ghost use Rattle.plain.specs.Areas.{placeLength};
@@ -56,7 +56,7 @@ pub fn ended(g: Scan, p: usize, need: u64, budget: u32) -> Scan
 // The pass goes on over the segment at p, whose eight bytes are w.
 pub fn turn(g: Scan, p: usize, w: u64, need: u64, budget: u32) -> Scan
     requires { ⌜ Ready g p budget × (p ≤ 131072) ⌝ }
-    ensures { λ r. ⌜ r ≡ turned g p w need budget ⌝ }
+    ensures { λ r. ⌜ r ≡ turned 8 g p w need budget ⌝ }
 {
     if w != 0 {
         return ended(g, p, need, budget);

@@ -1,11 +1,12 @@
 -- Two numbers of W bytes, one after the other, and cells as such. Assumes nothing.
 use mathlib.Core.Path.{_≡_, ap, _∙_}
 use mathlib.Core.Bool.{Bool, cond}
-use mathlib.Core.List.{List}
-use Prim.Native.Nat.{ℕ, zero, suc, _+_, _*_, _-_, _/_, _≤_, _<_}
+use mathlib.Core.List.{List, [], _∷_}
+use Prim.Native.Nat.{ℕ, zero, suc, _+_, _*_, _-_, _/_, _^_, _<_}
 use native.Mathlib.Omega.{arith}
-use lib.ListN.{length, take, drop, drop-of-length-le}
-use lib.Seq.{take-all}
+use native.Mathlib.Nat.{mul-zero, mul-comm, mul-assoc, pow-suc}
+use lib.ListN.{length, take, drop, length-take}
+use lib.Seq.{drop-drop}
 use lib.Dec.{ltb}
 use lib.Pow.{pow-mono}
 use borrow.Author.Tests.{lt-ltb, le-ltb}
@@ -43,14 +44,27 @@ pub cell-header : (W L r : ℕ) → r < W + W → cellByte W (header L) r ≡ pa
 unfolding cellByte pairByte
 cell-header W L r h = rw (lt-ltb r (W + W) h, byteOf-zero r)
 
--- at most eight bits are one byte
-byte-of : (ms : List Bool) → length ms ≤ 8 → (i : ℕ) → ofBits (take 8 (drop (8 * i) ms)) ≡ byteOf (ofBits ms) i
-unfolding byteOf ofBits
-byte-of ms h zero = rw (take-all 8 ms h) (omega (arith, ofBits-lt ms, pow-mono h))
-byte-of ms h (suc i) =
-    let z : ofBits ms / 256 ≡ 0 = omega (arith, ofBits-lt ms, pow-mono h) in
-    rw (drop-of-length-le ms {i = 8 * suc i} (omega arith), z, byteOf-zero i)
+-- the first n bits, and the others
+bits-split : (n : ℕ) (ms : List Bool) → ofBits ms ≡ ofBits (take n ms) + 2 ^ n * ofBits (drop n ms)
+unfolding ofBits
+bits-split zero ms = omega arith
+bits-split (suc n) [] = rw (mul-zero (2 ^ suc n))
+bits-split (suc n) (m ∷ ms) =
+    let e : 2 ^ suc n * ofBits (drop n ms) ≡ 2 * (2 ^ n * ofBits (drop n ms)) = rw (pow-suc 2 n, mul-comm (2 ^ n) 2, mul-assoc) in
+    omega (arith, e, bits-split n ms)
 
-pub cell-segment : (W d : ℕ) (ms : List Bool) (r : ℕ) → length ms ≤ 8 → cellByte W (segment d ms) r ≡ pairByte W (d + 1) (ofBits ms) r
+first-eight : (ms : List Bool) → ofBits (take 8 ms) < 256
+first-eight ms = omega (arith, ofBits-lt (take 8 ms), pow-mono {i = length (take 8 ms)} {j = 8} (simp length-take (omega arith)))
+
+-- byte i of the number has eight of the bits, or those that are left
+byte-of : (ms : List Bool) (i : ℕ) → ofBits (take 8 (drop (8 * i) ms)) ≡ byteOf (ofBits ms) i
+unfolding byteOf
+byte-of ms zero = omega (arith, bits-split 8 ms, first-eight ms)
+byte-of ms (suc i) =
+    let e : 8 * suc i ≡ 8 + 8 * i = omega arith in
+    let d : ofBits ms / 256 ≡ ofBits (drop 8 ms) = omega (arith, bits-split 8 ms, first-eight ms) in
+    rw (e, d, ← drop-drop (8 * i) 8 ms) (byte-of (drop 8 ms) i)
+
+pub cell-segment : (W d : ℕ) (ms : List Bool) (r : ℕ) → cellByte W (segment d ms) r ≡ pairByte W (d + 1) (ofBits ms) r
 unfolding cellByte pairByte
-cell-segment W d ms r h = ap (cond (ltb r W) (byteOf (d + 1) r)) (byte-of ms h (r - W))
+cell-segment W d ms r = ap (cond (ltb r W) (byteOf (d + 1) r)) (byte-of ms (r - W))

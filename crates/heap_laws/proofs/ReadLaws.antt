@@ -6,9 +6,10 @@ use native.Mathlib.Omega.{arith}
 use lib.Dec.{leb, ltb, eqb}
 use borrow.Author.Tests.{le-ltb, le-leb, eq-eqb, ne-eqb, eqb-true}
 use Rattle.number.specs.Little.{word}
+use Rattle.number.specs.Bits.{bitOf}
 use Rattle.number.proofs.TestLaws.{Test, is-true, is-false, test}
 use Rattle.plain.specs.Reading.{Reading, nothing, block, damaged}
-use Rattle.heap_layout.specs.Reading.{writtenBit, heapReading}
+use Rattle.heap_layout.specs.Reading.{bitsPlace, writtenBit, heapReading}
 
 -- what is left to test, d the offset of the segment, L the length
 abbrev pub told : (W G size : ℕ) → (f : ℕ → ℕ) → (p d L : ℕ) → Reading
@@ -32,3 +33,7 @@ pub read-told : (W G size : ℕ) (f : ℕ → ℕ) (p w L : ℕ) → w ≡ word 
 unfolding heapReading
 read-told W G size f p w L e n o h k =
     rw (← e, ne-eqb w 0 n, eq-eqb ((w - 1) % G) 0 o, le-ltb (p / G * G) (w - 1 + G) h, ← k) (no-length W G size f p (w - 1) L)
+
+-- the written bit: bit j of byte k
+pub bit-told : (W G : ℕ) (f : ℕ → ℕ) (p k j : ℕ) → k ≡ bitsPlace W G p → j ≡ p % G % 8 → writtenBit W G f p ≡ bitOf (f k) j
+bit-told W G f p k j e h = rw (e, h)

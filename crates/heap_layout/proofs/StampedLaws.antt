@@ -4,13 +4,13 @@ use mathlib.Core.Path.{_≡_, sym, ap, _∙_}
 use mathlib.Core.Bool.{true, cond}
 use mathlib.Core.List.{List, [], _∷_}
 use mathlib.Core.Option.{some}
-use Prim.Native.Nat.{ℕ, _+_, _*_, _-_, _/_, _%_, _^_, _≤_, _<_}
+use Prim.Native.Nat.{ℕ, suc, _+_, _*_, _-_, _/_, _%_, _^_, _≤_, _<_}
 use native.Mathlib.Omega.{arith}
-use native.Mathlib.Nat.{mod-lt, mul-le-mul-right, zero-mod, sub-self, zero-add}
+use native.Mathlib.Nat.{mod-lt, mul-le-mul-right, mul-mod-left, zero-mod, sub-self, zero-add}
 use lib.Arith.{digits-div}
 use lib.ListN.{length, length-set}
 use lib.Dec.{eqb}
-use borrow.Author.Tests.{le-leb, lt-leb, eqb-true}
+use borrow.Author.Tests.{le-leb, lt-leb, lt-ltb, eqb-true}
 use Rattle.number.specs.Bits.{bit, withBit}
 use Rattle.number.specs.Little.{word}
 use Rattle.number.specs.Parts.{at}
@@ -21,16 +21,18 @@ use Rattle.plain.specs.Block.{Block, len, contains, isWritten, markBlock}
 use Rattle.plain.specs.Blocks.{find, markOne}
 use Rattle.plain.specs.Rules.{Placed}
 use Rattle.plain.specs.Areas.{segments, placeLength, heapRules}
+use Rattle.plain.specs.Layer.{layer}
 use Rattle.plain.specs.Reading.{says}
 use Rattle.plain.specs.ShadowCalls.{inOne}
 use Rattle.plain.proofs.AreaLaws.{heap-plain, heap-ranged}
 use Rattle.plain.proofs.BlockLaws.{contains-true, true-contains}
 use Rattle.plain.proofs.StampedLaws as plain
 use Rattle.plain.proofs.StampedLaws.{Stamped}
-use Rattle.heap_layout.specs.Image.{covers, heapByte}
+use Rattle.heap_layout.specs.Image.{Cell, header, cellByte, covers, segmentOf, heapByte}
 use Rattle.heap_layout.specs.Reading.{bitsPlace, heapReading}
 use Rattle.heap_layout.specs.Ops.{heapStamp, heapMark, heapOps}
-use Rattle.heap_layout.proofs.SegmentLaws.{Sizes, some-segment, Stands, stands, aligned-eq, segments-gt, covers-byte, covers-holds, segment-in}
+use Rattle.heap_layout.proofs.SegmentLaws.{Sizes, some-segment, Stands, stands, base-div, aligned-eq, segments-gt, covers-byte, covers-holds, segment-in}
+use Rattle.heap_layout.proofs.CellLaws.{own-header, Shows, image-shows, header-number, header-length}
 use Rattle.heap_layout.proofs.ReadingLaws.{read-some, reading-told, reading-plain}
 use Rattle.heap_layout.proofs.ReadImage.{read-image}
 use Rattle.heap_layout.proofs.MarkLaws.{mark-byte}
@@ -46,7 +48,7 @@ module _ {W G size : ℕ} (z : Sizes W G size) (h : List ℕ) (fit : length h �
   alone = record { some = t .some; fits = t .fits; aligned = t .aligned; proper = t .proper; room = omega arith; later = tt }
 
   -- its place ends in the area
-  ends : b .base + segments G (len b) * G ≤ size
+  pub ends : b .base + segments G (len b) * G ≤ size
   ends = omega (arith, heap-ranged G g 0 size (zero-mod G) (z .whole) .r-foot (b .base) (len b) (t .fits) (t .aligned) .1)
 
   -- the bytes of its place are those of its image
@@ -57,6 +59,50 @@ module _ {W G size : ℕ} (z : Sizes W G size) (h : List ℕ) (fit : length h �
 
   some-place : 1 ≤ segments G (len b)
   some-place = segments-gt g (len b) 0 (omega (arith, t .some))
+
+  -- ---- the numbers in its place
+
+  abbrev stamped : ℕ → ℕ
+  stamped = at (heapStamp W G h b)
+
+  shown : Shows W G (heapByte W G (b ∷ [])) (u .head) (header (len b))
+  unfolding layer covers
+  shown r k =
+      let e : segmentOf G (b ∷ []) (u .head) ≡ header (len b) =
+      rw (base-div g size b u, le-leb (suc (u .head)) (suc (u .head)) (omega arith), lt-ltb (u .head) (suc (u .head) + segments G (len b)) (omega arith)) (own-header g size b u) in
+      image-shows W G (b ∷ []) (u .head) r k ∙ ap (λ (c : Cell). cellByte W c r) e
+
+  same-word : (q : ℕ) → b .base - G ≤ q → q + W ≤ b .base + segments G (len b) * G → word stamped q W ≡ word (heapByte W G (b ∷ [])) q W
+  unfolding placeLength
+  same-word q x y = word-same stamped (heapByte W G (b ∷ [])) q q W (λ i k. placed (q + i) (omega arith) (omega (arith, u .start)))
+
+  -- the header's: 0, and the length
+  pub stamped-header : word stamped (b .base - G) W ≡ 0
+  stamped-header =
+      let e : b .base - G ≡ u .head * G = omega (arith, u .start) in
+      same-word (b .base - G) (omega arith) (omega (arith, u .start, z .two)) ∙ rw e (header-number z (heapByte W G (b ∷ [])) (u .head) (len b) shown)
+
+  pub stamped-length : word stamped (b .base - G + W) W ≡ len b
+  stamped-length =
+      let e : b .base - G ≡ u .head * G = omega (arith, u .start) in
+      same-word (b .base - G + W) (omega arith) (omega (arith, u .start, z .two))
+      ∙ rw e (header-length z (heapByte W G (b ∷ [])) (u .head) (len b) (omega (arith, u .fits)) shown)
+
+  -- that of segment j: its offset + 1
+  pub stamped-number : (j : ℕ) → j * G < len b → word stamped (b .base + j * G) W ≡ j * G + 1
+  unfolding find
+  stamped-number j x =
+      let p : ℕ = b .base + j * G in
+      let F : ℕ → ℕ = heapByte W G (b ∷ []) in
+      let held : contains p b ≡ true = true-contains p b (omega arith) (omega arith) in
+      let e : p / G * G ≡ p = aligned-eq g p (rw (u .start) (ap (λ (q : ℕ). q % G) (sum j) ∙ mul-mod-left (suc (u .head) + j) G)) in
+      let T = reading-told W G size F p (b .base) (len b) (p - b .base) (bit (isWritten b p)) (b .literal) (read-image z (b ∷ []) alone p ∙ rw held) in
+      let n : word F p W ≡ p - b .base + 1 = rw e at (T .number) in
+      let d : p - b .base + 1 ≡ j * G + 1 = omega arith in
+      same-word p (omega arith) (omega (arith, mul-le-mul-right G (segments-gt g (len b) j x), z .two)) ∙ n ∙ d
+    where
+      sum : (j : ℕ) → suc (u .head) * G + j * G ≡ (suc (u .head) + j) * G
+      sum j = omega arith
 
   here : find (contains (b .base)) (b ∷ []) ≡ some b
   unfolding find

@@ -1,1 +1,2 @@
+pub mod FormMap
 pub mod Map

@@ -5,19 +5,24 @@ use lib.Dec.{leb, ltb, eqb}
 use Rattle.map.specs.declared.Map.{Map}
 use Rattle.map.specs.declared.Area.{Area}
 use Rattle.map.specs.declared.Area.the-variants.{Heap, Stack, Outside}
+use Rattle.map.specs.FormMap.{FormMap}
 
--- start and size are multiples of 8, the size is 16 to `most`, the start at least 8, and the end at most 4,294,967,295
-unfoldable pub goodArea : (start size most : ℕ) → Bool
-goodArea start size most =
-    eqb (start % 8) 0 && eqb (size % 8) 0 && leb 16 size && leb size most && leb 8 start && leb (start + size) 4294967295
+-- start and size are multiples of `unit`, the start at least that, the size at least twice that
+abbrev pub inUnits : (unit start size : ℕ) → Bool
+inUnits unit start size = leb unit start && eqb (start % unit) 0 && eqb (size % unit) 0 && leb (unit + unit) size
+
+-- besides, the size is at most `most`, and the end at most 4,294,967,295
+unfoldable pub goodArea : (unit start size most : ℕ) → Bool
+goodArea unit start size most = inUnits unit start size && leb size most && leb (start + size) 4294967295
 
 -- two areas share no byte
 unfoldable pub apart : (start size start′ size′ : ℕ) → Bool
 apart start size start′ size′ = leb (start + size) start′ || leb (start′ + size′) start
 
-unfoldable pub goodMap : Map → Bool
+-- the heap's multiples are of the form's segment, the stack's of 8 in every form
+unfoldable pub goodMap : FormMap → Bool
 goodMap m =
-    goodArea (m .«heap_start») (m .«heap_size») 131072 && goodArea (m .«stack_start») (m .«stack_size») 65536
+    goodArea (m .segment) (m .«heap_start») (m .«heap_size») 131072 && goodArea 8 (m .«stack_start») (m .«stack_size») 65536
     && apart (m .«heap_start») (m .«heap_size») (m .«stack_start») (m .«stack_size»)
 
 -- the address is one of the area's

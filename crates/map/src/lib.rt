@@ -1,8 +1,9 @@
 // The map of the areas, and the conversion between addresses and shadow positions.
 ghost use mathlib.Core.Path.{_≡_};
-ghost use mathlib.Core.Bool.{true};
-ghost use Prim.Native.Nat.{_+_, _-_, _≤_, _<_};
-ghost use Rattle.map.specs.Map.{goodMap, within, areaOf, startOf, endOf};
+ghost use Prim.Native.Nat.{_+_, _-_, _%_, _≤_, _<_};
+ghost use lib.Dec.{eqb};
+ghost use Rattle.map.specs.Map.{inUnits, goodMap, within, areaOf, startOf, endOf};
+ghost use Rattle.map.specs.FormMap.{segmentSize, under};
 
 pub struct Address(pub u32);
 
@@ -15,10 +16,38 @@ pub struct Map {
     pub stack_size: u32,
 }
 
+// The form of the heap: the player's numbers have four bytes and its segments 8, the desk's eight and 16. The stack is the same in both.
+pub enum Form {
+    Player,
+    Desk,
+}
+
 pub enum Area {
     Heap,
     Stack,
     Outside,
+}
+
+impl Form {
+    // The bytes of a heap segment.
+    pub fn segment(self) -> usize
+        ensures { λ r. ⌜ r ≡ segmentSize self ⌝ }
+    {
+        match self {
+            Form::Player => 8,
+            Form::Desk => 16,
+        }
+    }
+
+    // Whether so many bytes are whole segments.
+    pub fn whole(self, n: usize) -> bool
+        ensures { λ r. ⌜ r ≡ eqb (n % segmentSize self) 0 ⌝ }
+    {
+        match self {
+            Form::Player => n % 8 == 0,
+            Form::Desk => n % 16 == 0,
+        }
+    }
 }
 
 // The position of an address in the shadow of the area that begins at start.
@@ -48,26 +77,31 @@ fn lies_within(start: u32, size: u32, a: Address) -> bool
     at - start < size
 }
 
+// Whether the heap's start and size are whole segments of the form, two at least and not from 0 on.
+fn in_segments(form: Form, h: u64, n: u64) -> bool
+    ensures { λ r. ⌜ r ≡ inUnits (segmentSize form) h n ⌝ }
+{
+    match form {
+        Form::Player => (8 <= h) & (h % 8 == 0) & (n % 8 == 0) & (16 <= n),
+        Form::Desk => (16 <= h) & (h % 16 == 0) & (n % 16 == 0) & (32 <= n),
+    }
+}
+
 impl Map {
     // The sums are taken in 64 bits, where they cannot wrap.
-    pub fn good(self) -> bool
-        ensures { λ r. ⌜ r ≡ goodMap self ⌝ }
+    pub fn good(self, form: Form) -> bool
+        ensures { λ r. ⌜ r ≡ goodMap (under form self) ⌝ }
     {
         let h = self.heap_start as u64;
         let n = self.heap_size as u64;
         let s = self.stack_start as u64;
         let k = self.stack_size as u64;
-        let heap = (h % 8 == 0)
-            & (n % 8 == 0)
-            & (16 <= n)
-            & (n <= 131072)
-            & (8 <= h)
-            & (h + n <= 4294967295);
-        let stack = (s % 8 == 0)
+        let heap = in_segments(form, h, n) & (n <= 131072) & (h + n <= 4294967295);
+        let stack = (8 <= s)
+            & (s % 8 == 0)
             & (k % 8 == 0)
             & (16 <= k)
             & (k <= 65536)
-            & (8 <= s)
             & (s + k <= 4294967295);
         let apart = (h + n <= s) | (s + k <= h);
         heap & stack & apart
@@ -97,9 +131,9 @@ impl Map {
         }
     }
 
-    // The address after an area's last one: it fits since the map is good.
+    // The address after an area's last one, where it fits, as it does under a good map.
     pub fn end_of(self, k: Area) -> Address
-        requires { ⌜ goodMap self ≡ true ⌝ }
+        requires { ⌜ (self .«heap_start» + self .«heap_size» ≤ 4294967295) × (self .«stack_start» + self .«stack_size» ≤ 4294967295) ⌝ }
         ensures { λ r. ⌜ r .0 ≡ endOf self k ⌝ }
     {
         match k {

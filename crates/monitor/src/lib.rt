@@ -1,7 +1,9 @@
-// The calls of the block monitor, on a map by value and three lent shadows.
+// The calls of the block monitor, of player and desk: form and map by value, three lent shadows.
 ghost use mathlib.Core.Path.{_≡_};
+ghost use Rattle.map.specs.FormMap.{under};
 ghost use Rattle.monitor_base.specs.Answers.{outcome, callOf, anyCallOf};
 ghost use Rattle.monitor_base.specs.Calls as calls;
+use map::Form;
 use map::Map;
 pub use monitor_ask::ask;
 pub use monitor_audit::audit;
@@ -20,36 +22,53 @@ pub use monitor_remove::remove;
 pub use monitor_valid::valid;
 pub use monitor_written::written;
 
-// Any call that both forms have.
+// Any call that every form has.
 pub fn call_step(
     call: Call,
+    form: Form,
     map: Map,
     heap: &mut [u8],
     primary: &mut [u8],
     secondary: &mut [u8],
 ) -> Answer
     ensures { λ r. ⌜ outcome r (now (heap .exit)) (now (primary .exit)) (now (secondary .exit))
-        ≡ calls.call map (callOf call) (now (heap .entry), (now (primary .entry), now (secondary .entry))) ⌝ }
+        ≡ calls.call (under form map) (callOf call) (now (heap .entry), (now (primary .entry), now (secondary .entry))) ⌝ }
 {
     match call {
-        Call::Query(query) => monitor_query::query_step(query, map, heap, primary, secondary),
-        Call::Update(update) => monitor_update::update_step(update, map, heap, primary, secondary),
+        Call::Query(query) => monitor_query::query_step(query, form, map, heap, primary, secondary),
+        Call::Update(update) => monitor_update::update_step(
+            update,
+            form,
+            map,
+            heap,
+            primary,
+            secondary,
+        ),
     }
 }
 
 // Any call.
 pub fn step(
     call: PlainCall,
+    form: Form,
     map: Map,
     heap: &mut [u8],
     primary: &mut [u8],
     secondary: &mut [u8],
 ) -> Answer
     ensures { λ r. ⌜ outcome r (now (heap .exit)) (now (primary .exit)) (now (secondary .exit))
-        ≡ calls.call map (anyCallOf call) (now (heap .entry), (now (primary .entry), now (secondary .entry))) ⌝ }
+        ≡ calls.call (under form map) (anyCallOf call) (now (heap .entry), (now (primary .entry), now (secondary .entry))) ⌝ }
 {
     match call {
-        PlainCall::Call(c) => call_step(c, map, heap, primary, secondary),
-        PlainCall::Place(length, budget) => place(map, heap, primary, secondary, length, budget),
+        PlainCall::Call(c) => call_step(c, form, map, heap, primary, secondary),
+        PlainCall::Place(length, budget) => place(
+            form,
+            map,
+            heap,
+            primary,
+            secondary,
+            length,
+            budget,
+        ),
     }
 }

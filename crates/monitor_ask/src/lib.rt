@@ -1,6 +1,7 @@
 // The call that tells of an address: one reading and an answer.
 ghost use mathlib.Core.Path.{_≡_};
 ghost use Prim.Native.Nat.{_-_};
+ghost use Rattle.map.specs.FormMap.{under};
 ghost use Rattle.plain.specs.Answers.{readingOf};
 ghost use Rattle.plain.specs.Lift.{readingUp};
 ghost use Rattle.monitor_base.specs.Answers.{answerOf, outcome};
@@ -8,6 +9,7 @@ ghost use Rattle.monitor_base.specs.Calls.{call};
 ghost use Rattle.monitor_read_laws.specs.Asked.{originOf, askReading, baseBelow};
 ghost use Rattle.plain.specs.Call as plain;
 use map::Address;
+use map::Form;
 use map::Map;
 use monitor_base::Answer;
 use monitor_base::Located;
@@ -47,11 +49,18 @@ fn told(r: Reading, start: Address) -> Answer
 }
 
 // Base, length, offset, and 1 where the byte is written or else 0.
-pub fn ask(map: Map, heap: &[u8], primary: &[u8], secondary: &[u8], a: Address) -> Answer
+pub fn ask(
+    form: Form,
+    map: Map,
+    heap: &[u8],
+    primary: &[u8],
+    secondary: &[u8],
+    a: Address,
+) -> Answer
     ensures { λ r. ⌜ outcome r (now (heap .entry)) (now (primary .entry)) (now (secondary .entry))
-        ≡ call map (plain.ask (a .0)) (now (heap .entry), (now (primary .entry), now (secondary .entry))) ⌝ }
+        ≡ call (under form map) (plain.ask (a .0)) (now (heap .entry), (now (primary .entry), now (secondary .entry))) ⌝ }
 {
-    let k = guard::checked(map, heap.len(), primary.len(), secondary.len());
+    let k = guard::checked(form, map, heap.len(), primary.len(), secondary.len());
     if k != 0 {
         return guard::refusal(k);
     }
@@ -60,7 +69,7 @@ pub fn ask(map: Map, heap: &[u8], primary: &[u8], secondary: &[u8], a: Address) 
         return guard::refusal(4);
     }
     told(
-        monitor_reading::reading(heap, primary, secondary, l),
+        monitor_reading::reading(form, heap, primary, secondary, l),
         origin(map, l),
     )
 }

@@ -5,7 +5,7 @@ use mathlib.Core.Logic.{_≢_}
 use Prim.Native.Nat.{ℕ}
 use native.Mathlib.Omega.{arith}
 use Rattle.number.proofs.TestLaws.{Test, is-true, is-false, test}
-use Rattle.map.specs.declared.Map.{Map}
+use Rattle.map.specs.FormMap.{FormMap}
 use Rattle.map.specs.Map.{goodMap}
 use Rattle.plain.specs.Areas.{mapRules}
 use Rattle.plain.specs.Call.{Call, refusal}
@@ -14,15 +14,15 @@ use Rattle.shadows.specs.Shadows.{Shadows, lengthsFit, shadowOps}
 use Rattle.monitor_base.specs.Calls.{call}
 
 -- 1 and 2, as the code tells them
-abbrev pub early : Map → Shadows → ℕ
+abbrev pub early : FormMap → Shadows → ℕ
 early m s = cond (goodMap m) (cond (lengthsFit m s) 0 2) 1
 
-pub call-step : (m : Map) (c : Call) (s : Shadows) → goodMap m ≡ true → lengthsFit m s ≡ true → call m c s ≡ shadowStep (mapRules m) (shadowOps m) c s
+pub call-step : (m : FormMap) (c : Call) (s : Shadows) → goodMap m ≡ true → lengthsFit m s ≡ true → call m c s ≡ shadowStep (mapRules m) (shadowOps m) c s
 unfolding call shadowStep
 call-step m c s g l = rw (g, l)
 
 -- a call that 1 or 2 refuses
-pub call-early : (m : Map) (c : Call) (s : Shadows) (k : ℕ) → k ≡ early m s → k ≢ 0 → call m c s ≡ (s, refusal k)
+pub call-early : (m : FormMap) (c : Call) (s : Shadows) (k : ℕ) → k ≡ early m s → k ≢ 0 → call m c s ≡ (s, refusal k)
 unfolding call
 call-early m c s k e n = go (test (goodMap m)) (test (lengthsFit m s))
   where
@@ -31,7 +31,7 @@ call-early m c s k e n = go (test (goodMap m)) (test (lengthsFit m s))
     go (is-true g) (is-false l) = let z : k ≡ 2 = rw (g, l) at e in rw (g, l, z)
     go (is-true g) (is-true l) = absurd (n (rw (g, l) at e))
 
-pub early-good : (m : Map) (s : Shadows) → 0 ≡ early m s → (goodMap m ≡ true) × (lengthsFit m s ≡ true)
+pub early-good : (m : FormMap) (s : Shadows) → 0 ≡ early m s → (goodMap m ≡ true) × (lengthsFit m s ≡ true)
 early-good m s e = go (test (goodMap m)) (test (lengthsFit m s))
   where
     go : Test (goodMap m) → Test (lengthsFit m s) → (goodMap m ≡ true) × (lengthsFit m s ≡ true)

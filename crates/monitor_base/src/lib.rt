@@ -15,7 +15,7 @@ pub struct Answer {
     pub fourth: u32,
 }
 
-// The calls that only read. Place, which the plain form alone has, is no Query: see PlainCall.
+// The calls that only read. Place, which the form with origins has not, is no Query: see PlainCall.
 pub enum Query {
     Ask(Address),
     // May n bytes from the first address on be read, in the block of the second; where the flag is set, may they be written as well.
@@ -34,13 +34,13 @@ pub enum Update {
     Written(Address, u32),
 }
 
-// The calls that both forms have.
+// The calls that every form has.
 pub enum Call {
     Query(Query),
     Update(Update),
 }
 
-// Any call of the plain form: place, of a length and a budget, has no kind and is the plain form's alone.
+// Any call of player and desk: place, of a length and a budget, has no kind, and the form with origins has it not.
 pub enum PlainCall {
     Call(Call),
     Place(u32, u32),

@@ -1,8 +1,7 @@
 // Where an address lies: its area, and its position there; and where an area ends.
 ghost use mathlib.Core.Path.{_≡_};
-ghost use mathlib.Core.Bool.{true};
-ghost use Prim.Native.Nat.{_-_};
-ghost use Rattle.map.specs.Map.{goodMap, startOf, endOf};
+ghost use Prim.Native.Nat.{_+_, _-_, _≤_};
+ghost use Rattle.map.specs.Map.{startOf, endOf};
 ghost use Rattle.monitor_base.specs.Locating.{Lies};
 use crate::Located;
 use map::Address;
@@ -24,7 +23,7 @@ pub fn locate(map: Map, a: Address) -> Located
 
 // The position of an area's end.
 pub fn end(map: Map, area: Area) -> Position
-    requires { ⌜ goodMap map ≡ true ⌝ }
+    requires { ⌜ (map .«heap_start» + map .«heap_size» ≤ 4294967295) × (map .«stack_start» + map .«stack_size» ≤ 4294967295) ⌝ }
     ensures { λ r. ⌜ r .0 ≡ endOf map area - startOf map area ⌝ }
 {
     map::to_position(map.end_of(area), map.start_of(area))

@@ -2,27 +2,29 @@
 ghost use mathlib.Core.Path.{_≡_};
 ghost use Prim.Native.Nat.{_%_, _≤_, _<_};
 ghost use lib.ListN.{length};
+ghost use Rattle.map.specs.FormMap.{numberSize, segmentSize};
 ghost use Rattle.plain.specs.Call as plain;
 ghost use Rattle.monitor_write_laws.specs.AreaCalls.{onHeap, onStack};
+use map::Form;
 use map::Position;
 
 // In the heap, whose first segment holds no block. The number.
-pub fn on_heap(heap: &[u8], base: Position, end: Position, len: u32) -> u32
+pub fn on_heap(form: Form, heap: &[u8], base: Position, end: Position, len: u32) -> u32
     requires { ⌜ (1 ≤ len) × (end .0 ≡ length (now heap)) ⌝ }
-    requires { ⌜ (base .0 < length (now heap)) × (length (now heap) % 8 ≡ 0) × (length (now heap) ≤ 131072) ⌝ }
-    ensures { λ r. ⌜ r ≡ plain.number (onHeap (plain.record-block (base .0) len) (now (heap .entry)) .1) ⌝ }
+    requires { ⌜ (base .0 < length (now heap)) × (length (now heap) % segmentSize form ≡ 0) × (length (now heap) ≤ 131072) ⌝ }
+    ensures { λ r. ⌜ r ≡ plain.number (onHeap (numberSize form) (segmentSize form) (plain.record-block (base .0) len) (now (heap .entry)) .1) ⌝ }
 {
     let b = base.0;
-    if b < 8 {
+    if b < form.segment() {
         return 4;
     }
     if end.0 < b + (len as usize) {
         return 4;
     }
-    if b % 8 != 0 {
+    if !form.whole(b) {
         return 5;
     }
-    if !heap_place::vacant(heap, base, len) {
+    if !heap_place::vacant(form, heap, base, len) {
         return 6;
     }
     0

@@ -1,10 +1,12 @@
 // The calls for C and Rust to link: a map is an array of four numbers, a shadow a pointer and a length, the answer fields go into a lent
 // array of four, and the number is returned.
 ghost use mathlib.Core.Path.{_≡_};
+ghost use Rattle.map.specs.FormMap.{player};
 ghost use Rattle.plain.specs.Call as plain;
 ghost use Rattle.monitor_base.specs.Calls.{call};
 ghost use Rattle.monitor_c_lent.specs.Lent.{mapOf, beginningOf, left};
 use map::Address;
+use map::Form;
 use monitor_c_lent::beginning;
 use monitor_c_lent::map_of;
 use monitor_c_lent::told;
@@ -18,10 +20,10 @@ pub extern "C" fn block_monitor_clear(
     fields: &mut [u32; 4],
 ) -> u32
     ensures { λ k. ⌜ left k (now (fields .exit)) (now (heap .exit)) (now (primary .exit)) (now (secondary .exit))
-        ≡ call (mapOf (now (map .entry))) (plain.clear) (now (heap .entry), (now (primary .entry), now (secondary .entry))) ⌝ }
+        ≡ call (player (mapOf (now (map .entry)))) (plain.clear) (now (heap .entry), (now (primary .entry), now (secondary .entry))) ⌝ }
 {
     told(
-        monitor::clear(map_of(map), heap, primary, secondary),
+        monitor::clear(Form::Player, map_of(map), heap, primary, secondary),
         fields,
     )
 }
@@ -39,10 +41,11 @@ pub extern "C" fn block_monitor_begin(
     fields: &mut [u32; 4],
 ) -> u32
     ensures { λ k. ⌜ left k (now (fields .exit)) (now (heap .exit)) (now (primary .exit)) (now (secondary .exit))
-        ≡ call (mapOf (now (map .entry))) (plain.begin (beginningOf how) base length) (now (heap .entry), (now (primary .entry), now (secondary .entry))) ⌝ }
+        ≡ call (player (mapOf (now (map .entry)))) (plain.begin (beginningOf how) base length) (now (heap .entry), (now (primary .entry), now (secondary .entry))) ⌝ }
 {
     told(
         monitor::begin(
+            Form::Player,
             map_of(map),
             heap,
             primary,
@@ -65,10 +68,17 @@ pub extern "C" fn block_monitor_free(
     fields: &mut [u32; 4],
 ) -> u32
     ensures { λ k. ⌜ left k (now (fields .exit)) (now (heap .exit)) (now (primary .entry)) (now (secondary .entry))
-        ≡ call (mapOf (now (map .entry))) (plain.free base) (now (heap .entry), (now (primary .entry), now (secondary .entry))) ⌝ }
+        ≡ call (player (mapOf (now (map .entry)))) (plain.free base) (now (heap .entry), (now (primary .entry), now (secondary .entry))) ⌝ }
 {
     told(
-        monitor::free(map_of(map), heap, primary, secondary, Address(base)),
+        monitor::free(
+            Form::Player,
+            map_of(map),
+            heap,
+            primary,
+            secondary,
+            Address(base),
+        ),
         fields,
     )
 }
@@ -83,10 +93,17 @@ pub extern "C" fn block_monitor_remove(
     fields: &mut [u32; 4],
 ) -> u32
     ensures { λ k. ⌜ left k (now (fields .exit)) (now (heap .entry)) (now (primary .exit)) (now (secondary .exit))
-        ≡ call (mapOf (now (map .entry))) (plain.remove base) (now (heap .entry), (now (primary .entry), now (secondary .entry))) ⌝ }
+        ≡ call (player (mapOf (now (map .entry)))) (plain.remove base) (now (heap .entry), (now (primary .entry), now (secondary .entry))) ⌝ }
 {
     told(
-        monitor::remove(map_of(map), heap, primary, secondary, Address(base)),
+        monitor::remove(
+            Form::Player,
+            map_of(map),
+            heap,
+            primary,
+            secondary,
+            Address(base),
+        ),
         fields,
     )
 }
@@ -102,10 +119,18 @@ pub extern "C" fn block_monitor_written(
     fields: &mut [u32; 4],
 ) -> u32
     ensures { λ k. ⌜ left k (now (fields .exit)) (now (heap .exit)) (now (primary .exit)) (now (secondary .exit))
-        ≡ call (mapOf (now (map .entry))) (plain.written address n) (now (heap .entry), (now (primary .entry), now (secondary .entry))) ⌝ }
+        ≡ call (player (mapOf (now (map .entry)))) (plain.written address n) (now (heap .entry), (now (primary .entry), now (secondary .entry))) ⌝ }
 {
     told(
-        monitor::written(map_of(map), heap, primary, secondary, Address(address), n),
+        monitor::written(
+            Form::Player,
+            map_of(map),
+            heap,
+            primary,
+            secondary,
+            Address(address),
+            n,
+        ),
         fields,
     )
 }
@@ -120,10 +145,17 @@ pub extern "C" fn block_monitor_ask(
     fields: &mut [u32; 4],
 ) -> u32
     ensures { λ k. ⌜ left k (now (fields .exit)) (now (heap .entry)) (now (primary .entry)) (now (secondary .entry))
-        ≡ call (mapOf (now (map .entry))) (plain.ask address) (now (heap .entry), (now (primary .entry), now (secondary .entry))) ⌝ }
+        ≡ call (player (mapOf (now (map .entry)))) (plain.ask address) (now (heap .entry), (now (primary .entry), now (secondary .entry))) ⌝ }
 {
     told(
-        monitor::ask(map_of(map), heap, primary, secondary, Address(address)),
+        monitor::ask(
+            Form::Player,
+            map_of(map),
+            heap,
+            primary,
+            secondary,
+            Address(address),
+        ),
         fields,
     )
 }
@@ -142,10 +174,20 @@ pub extern "C" fn block_monitor_access(
     fields: &mut [u32; 4],
 ) -> u32
     ensures { λ k. ⌜ left k (now (fields .exit)) (now (heap .entry)) (now (primary .entry)) (now (secondary .entry))
-        ≡ call (mapOf (now (map .entry))) (plain.valid write address n from) (now (heap .entry), (now (primary .entry), now (secondary .entry))) ⌝ }
+        ≡ call (player (mapOf (now (map .entry)))) (plain.valid write address n from) (now (heap .entry), (now (primary .entry), now (secondary .entry))) ⌝ }
 {
     told(
-        monitor_c_lent::valid(map, heap, primary, secondary, address, n, from, write),
+        monitor_c_lent::valid(
+            Form::Player,
+            map,
+            heap,
+            primary,
+            secondary,
+            address,
+            n,
+            from,
+            write,
+        ),
         fields,
     )
 }
@@ -161,10 +203,18 @@ pub extern "C" fn block_monitor_initialised(
     fields: &mut [u32; 4],
 ) -> u32
     ensures { λ k. ⌜ left k (now (fields .exit)) (now (heap .entry)) (now (primary .entry)) (now (secondary .entry))
-        ≡ call (mapOf (now (map .entry))) (plain.initialised address n) (now (heap .entry), (now (primary .entry), now (secondary .entry))) ⌝ }
+        ≡ call (player (mapOf (now (map .entry)))) (plain.initialised address n) (now (heap .entry), (now (primary .entry), now (secondary .entry))) ⌝ }
 {
     told(
-        monitor::initialised(map_of(map), heap, primary, secondary, Address(address), n),
+        monitor::initialised(
+            Form::Player,
+            map_of(map),
+            heap,
+            primary,
+            secondary,
+            Address(address),
+            n,
+        ),
         fields,
     )
 }
@@ -179,10 +229,17 @@ pub extern "C" fn block_monitor_next(
     fields: &mut [u32; 4],
 ) -> u32
     ensures { λ k. ⌜ left k (now (fields .exit)) (now (heap .entry)) (now (primary .entry)) (now (secondary .entry))
-        ≡ call (mapOf (now (map .entry))) (plain.next address) (now (heap .entry), (now (primary .entry), now (secondary .entry))) ⌝ }
+        ≡ call (player (mapOf (now (map .entry)))) (plain.next address) (now (heap .entry), (now (primary .entry), now (secondary .entry))) ⌝ }
 {
     told(
-        monitor::next(map_of(map), heap, primary, secondary, Address(address)),
+        monitor::next(
+            Form::Player,
+            map_of(map),
+            heap,
+            primary,
+            secondary,
+            Address(address),
+        ),
         fields,
     )
 }
@@ -196,10 +253,10 @@ pub extern "C" fn block_monitor_audit(
     fields: &mut [u32; 4],
 ) -> u32
     ensures { λ k. ⌜ left k (now (fields .exit)) (now (heap .entry)) (now (primary .entry)) (now (secondary .entry))
-        ≡ call (mapOf (now (map .entry))) (plain.audit) (now (heap .entry), (now (primary .entry), now (secondary .entry))) ⌝ }
+        ≡ call (player (mapOf (now (map .entry)))) (plain.audit) (now (heap .entry), (now (primary .entry), now (secondary .entry))) ⌝ }
 {
     told(
-        monitor::audit(map_of(map), heap, primary, secondary),
+        monitor::audit(Form::Player, map_of(map), heap, primary, secondary),
         fields,
     )
 }
@@ -215,10 +272,10 @@ pub extern "C" fn block_monitor_place(
     fields: &mut [u32; 4],
 ) -> u32
     ensures { λ k. ⌜ left k (now (fields .exit)) (now (heap .entry)) (now (primary .entry)) (now (secondary .entry))
-        ≡ call (mapOf (now (map .entry))) (plain.place length budget) (now (heap .entry), (now (primary .entry), now (secondary .entry))) ⌝ }
+        ≡ call (player (mapOf (now (map .entry)))) (plain.place length budget) (now (heap .entry), (now (primary .entry), now (secondary .entry))) ⌝ }
 {
     told(
-        monitor_c_lent::place(map, heap, primary, secondary, length, budget),
+        monitor_c_lent::place(Form::Player, map, heap, primary, secondary, length, budget),
         fields,
     )
 }

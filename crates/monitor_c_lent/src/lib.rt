@@ -1,12 +1,14 @@
-// What the exported functions share: a map and the answer fields are lent as arrays of four numbers. And the two calls whose arguments could be
+// What the exported functions of every form share: a map and the answer fields are lent as arrays of four numbers. And the two calls whose arguments could be
 // taken for each other.
 ghost use mathlib.Core.Path.{_≡_};
 ghost use lib.ListN.{length};
+ghost use Rattle.map.specs.FormMap.{under};
 ghost use Rattle.plain.specs.Call as plain;
 ghost use Rattle.monitor_base.specs.Answers.{answerOf, outcome};
 ghost use Rattle.monitor_base.specs.Calls.{call};
 ghost use Rattle.monitor_c_lent.specs.Lent.{mapOf, beginningOf, answered};
 use map::Address;
+use map::Form;
 use map::Map;
 use monitor_base::Answer;
 use plain::Beginning;
@@ -49,6 +51,7 @@ pub fn beginning(how: u8) -> Beginning
 
 // Whether n bytes from an address on lie in the block of another, and may be written where that is asked.
 pub fn valid(
+    form: Form,
     map: &[u32; 4],
     heap: &[u8],
     primary: &[u8],
@@ -59,9 +62,10 @@ pub fn valid(
     write: bool,
 ) -> Answer
     ensures { λ r. ⌜ outcome r (now (heap .entry)) (now (primary .entry)) (now (secondary .entry))
-        ≡ call (mapOf (now (map .entry))) (plain.valid write address n from) (now (heap .entry), (now (primary .entry), now (secondary .entry))) ⌝ }
+        ≡ call (under form (mapOf (now (map .entry)))) (plain.valid write address n from) (now (heap .entry), (now (primary .entry), now (secondary .entry))) ⌝ }
 {
     monitor_valid::valid(
+        form,
         map_of(map),
         heap,
         primary,
@@ -75,6 +79,7 @@ pub fn valid(
 
 // A base for a block of this length, in one of the first `budget` gaps.
 pub fn place(
+    form: Form,
     map: &[u32; 4],
     heap: &[u8],
     primary: &[u8],
@@ -83,7 +88,7 @@ pub fn place(
     budget: u32,
 ) -> Answer
     ensures { λ r. ⌜ outcome r (now (heap .entry)) (now (primary .entry)) (now (secondary .entry))
-        ≡ call (mapOf (now (map .entry))) (plain.place length budget) (now (heap .entry), (now (primary .entry), now (secondary .entry))) ⌝ }
+        ≡ call (under form (mapOf (now (map .entry)))) (plain.place length budget) (now (heap .entry), (now (primary .entry), now (secondary .entry))) ⌝ }
 {
-    monitor_place::place(map_of(map), heap, primary, secondary, length, budget)
+    monitor_place::place(form, map_of(map), heap, primary, secondary, length, budget)
 }

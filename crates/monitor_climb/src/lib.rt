@@ -1,23 +1,24 @@
 // How far the search for the next block goes on past an address: readings that are settled already are not taken.
 ghost use mathlib.Core.Path.{_≡_};
 ghost use mathlib.Core.Bool.{true};
-ghost use Prim.Native.Nat.{_%_, _≤_, _<_};
+ghost use Prim.Native.Nat.{_+_, _≤_, _<_, max};
 ghost use lib.ListN.{length};
 ghost use Rattle.number.specs.Parts.{at};
+ghost use Rattle.map.specs.FormMap.{under};
 ghost use Rattle.map.specs.Map.{goodMap};
-ghost use Rattle.plain.specs.Areas.{mapRules};
 ghost use Rattle.monitor_base.specs.Locating.{Lies};
-ghost use Rattle.monitor_read_laws.specs.Climbed.{FreeSegments, FreeBytes, startAbove, Skips};
+ghost use Rattle.monitor_read_laws.specs.Climbed.{FreeBytes, startAbove, Skips};
 use map::Address;
 use map::Area;
+use map::Form;
 use map::Map;
 use map::Position;
 use monitor_base::Located;
 
 // The end of the areas: no address from it on lies in one.
 pub fn top(map: Map) -> Address
-    requires { ⌜ goodMap map ≡ true ⌝ }
-    ensures { λ r. ⌜ r .0 ≡ mapRules map .top ⌝ }
+    requires { ⌜ (map .«heap_start» + map .«heap_size» ≤ 4294967295) × (map .«stack_start» + map .«stack_size» ≤ 4294967295) ⌝ }
+    ensures { λ r. ⌜ r .0 ≡ max (map .«heap_start» + map .«heap_size») (map .«stack_start» + map .«stack_size») ⌝ }
 {
     let heap = map.end_of(Area::Heap);
     let stack = map.end_of(Area::Stack);
@@ -25,21 +26,6 @@ pub fn top(map: Map) -> Address
         return stack;
     }
     heap
-}
-
-// Past the segment of a position, in which no other block begins, and the free segments after it.
-fn past_segments(heap: &[u8], p: Position) -> Position
-    requires { ⌜ (p .0 < length (now heap)) × (length (now heap) % 8 ≡ 0) × (length (now heap) ≤ 131072) ⌝ }
-    ensures { λ r. ⌜ FreeSegments (length (now (heap .entry))) (at (now (heap .entry))) (p .0) (r .0) ⌝ }
-{
-    let mut at = p.0 / 8 * 8 + 8;
-    while at < heap.len() {
-        if number_words::number_at(heap, at) != 0 {
-            return Position(at);
-        }
-        at += 8;
-    }
-    Position(at)
 }
 
 // Past a position, and the bytes after it that are 0, as far as eight bytes at a time show it.
@@ -77,12 +63,15 @@ fn start_above(map: Map, a: Address) -> Address
 }
 
 // The address at which the search goes on, past one whose reading it has passed.
-pub fn past(map: Map, heap: &[u8], primary: &[u8], a: Address, l: Located) -> Address
-    requires { ⌜ (goodMap map ≡ true) × (length (now heap) ≡ map .«heap_size») × (length (now primary) ≡ map .«stack_size») × Lies map (a .0) l ⌝ }
-    ensures { λ r. ⌜ Skips map (now (heap .entry)) (now (primary .entry)) (a .0) l (r .0) ⌝ }
+pub fn past(form: Form, map: Map, heap: &[u8], primary: &[u8], a: Address, l: Located) -> Address
+    requires { ⌜ (goodMap (under form map) ≡ true) × (length (now heap) ≡ map .«heap_size») × (length (now primary) ≡ map .«stack_size») × Lies map (a .0) l ⌝ }
+    ensures { λ r. ⌜ Skips (under form map) (now (heap .entry)) (now (primary .entry)) (a .0) l (r .0) ⌝ }
 {
     match l {
-        Located::Heap(p) => map::to_address(past_segments(heap, p), Address(map.heap_start)),
+        Located::Heap(p) => map::to_address(
+            heap_forms::past_segments(form, heap, p),
+            Address(map.heap_start),
+        ),
         Located::Stack(p) => map::to_address(past_bytes(primary, p), Address(map.stack_start)),
         Located::Outside => start_above(map, a),
     }

@@ -2,6 +2,7 @@
 ghost use mathlib.Core.Path.{_≡_};
 ghost use Prim.Native.Nat.{_%_, _≤_, _<_};
 ghost use lib.ListN.{length};
+ghost use Rattle.map.specs.FormMap.{numberSize, segmentSize, under};
 ghost use Rattle.number.specs.Parts.{at};
 ghost use Rattle.plain.specs.Call as plain;
 ghost use Rattle.plain.specs.Ops.{rangeMarked};
@@ -13,6 +14,7 @@ ghost use Rattle.monitor_base.specs.Answers.{answerOf, outcome};
 ghost use Rattle.monitor_base.specs.Calls.{call};
 ghost use Rattle.monitor_read_laws.specs.Asked.{initialisedAnswer};
 use map::Address;
+use map::Form;
 use map::Map;
 use map::Position;
 use monitor_base::Answer;
@@ -22,14 +24,14 @@ use monitor_base::locating::locate;
 use plain::Reading;
 
 // In the heap.
-fn written_heap(heap: &[u8], p: Position, n: u32) -> Answer
-    requires { ⌜ (p .0 < length (now heap)) × (length (now heap) % 8 ≡ 0) × (length (now heap) ≤ 131072) ⌝ }
-    ensures { λ r. ⌜ answerOf r ≡ initialisedAnswer n (heapReading 4 8 (length (now (heap .entry))) (at (now (heap .entry))) (p .0))
-        (rangeMarked (heapOps 4 8 (length (now (heap .entry)))) (now (heap .entry)) (p .0) n) ⌝ }
+fn written_heap(form: Form, heap: &[u8], p: Position, n: u32) -> Answer
+    requires { ⌜ (p .0 < length (now heap)) × (length (now heap) % segmentSize form ≡ 0) × (length (now heap) ≤ 131072) ⌝ }
+    ensures { λ r. ⌜ answerOf r ≡ initialisedAnswer n (heapReading (numberSize form) (segmentSize form) (length (now (heap .entry))) (at (now (heap .entry))) (p .0))
+        (rangeMarked (heapOps (numberSize form) (segmentSize form) (length (now (heap .entry)))) (now (heap .entry)) (p .0) n) ⌝ }
 {
-    let first = heap_read::read(heap, p);
+    let first = heap_forms::read(form, heap, p);
     if monitor_reading::in_one(first, n) {
-        return monitor_yes_no::yes_no(heap_marked::marked(heap, p, n));
+        return monitor_yes_no::yes_no(heap_forms::marked(form, heap, p, n));
     }
     monitor_yes_no::apart(first, Reading::Nothing)
 }
@@ -50,6 +52,7 @@ fn written_stack(primary: &[u8], secondary: &[u8], p: Position, n: u32) -> Answe
 
 // Whether n bytes lie in one block and each is written: 1 or 0.
 pub fn initialised(
+    form: Form,
     map: Map,
     heap: &[u8],
     primary: &[u8],
@@ -58,9 +61,9 @@ pub fn initialised(
     n: u32,
 ) -> Answer
     ensures { λ r. ⌜ outcome r (now (heap .entry)) (now (primary .entry)) (now (secondary .entry))
-        ≡ call map (plain.initialised (a .0) n) (now (heap .entry), (now (primary .entry), now (secondary .entry))) ⌝ }
+        ≡ call (under form map) (plain.initialised (a .0) n) (now (heap .entry), (now (primary .entry), now (secondary .entry))) ⌝ }
 {
-    let k = guard::checked(map, heap.len(), primary.len(), secondary.len());
+    let k = guard::checked(form, map, heap.len(), primary.len(), secondary.len());
     if k != 0 {
         return guard::refusal(k);
     }
@@ -68,7 +71,7 @@ pub fn initialised(
         return guard::refusal(3);
     }
     match locate(map, a) {
-        Located::Heap(p) => written_heap(heap, p, n),
+        Located::Heap(p) => written_heap(form, heap, p, n),
         Located::Stack(p) => written_stack(primary, secondary, p, n),
         Located::Outside => monitor_yes_no::yes_no(false),
     }

@@ -3,7 +3,7 @@ use mathlib.Core.Path.{_≡_, refl, _∙_}
 use mathlib.Core.Bool.{true, not}
 use mathlib.Core.List.{[], _∷_}
 use Prim.Native.Nat.{ℕ}
-use Rattle.map.specs.declared.Map.{Map}
+use Rattle.map.specs.FormMap.{FormMap}
 use Rattle.map.specs.Map.{goodMap}
 use Rattle.plain.specs.Areas.{mapRules}
 use Rattle.plain.specs.Call.{next, unless, firstOf}
@@ -15,7 +15,7 @@ use Rattle.monitor_base.proofs.CallLaws.{call-step}
 use Rattle.monitor_next.specs.Searched.{searchOf, searchAnswer}
 use Rattle.monitor_next.specs.declared.Search.{Search}
 
-module _ (m : Map) (s : Shadows) (ok : goodMap m ≡ true) (fit : lengthsFit m s ≡ true) where
+module _ (m : FormMap) (s : Shadows) (ok : goodMap m ≡ true) (fit : lengthsFit m s ≡ true) where
   by : (r : Reading) → unless (firstOf ((8, isDamaged r) ∷ (7, not (isBlock r)) ∷ [])) s (s, nextAnswer r) ≡ (s, searchAnswer (searchOf r))
   by nothing = refl
   by (block b l o w t) = refl

@@ -1,6 +1,7 @@
 // The search for the next block, address by address.
 ghost use mathlib.Core.Path.{_≡_};
 ghost use mathlib.Core.Bool.{true};
+ghost use Rattle.map.specs.FormMap.{under};
 ghost use Rattle.map.specs.Map.{goodMap};
 ghost use Rattle.plain.specs.Areas.{mapRules};
 ghost use Rattle.plain.specs.Call as plain;
@@ -10,6 +11,7 @@ ghost use Rattle.monitor_base.specs.Answers.{answerOf, outcome};
 ghost use Rattle.monitor_base.specs.Calls.{call};
 ghost use Rattle.monitor_next.specs.Searched.{searchOf, searchAnswer};
 use map::Address;
+use map::Form;
 use map::Map;
 use monitor_base::Answer;
 use monitor_base::guard;
@@ -23,9 +25,9 @@ pub enum Search {
 }
 
 // A reading with offset 0 is of its block's base. Addresses whose reading is settled by the one just taken are passed at once.
-fn climb(map: Map, heap: &[u8], primary: &[u8], secondary: &[u8], a: Address) -> Search
-    requires { ⌜ (goodMap map ≡ true) × (lengthsFit map (now heap, (now primary, now secondary)) ≡ true) ⌝ }
-    ensures { λ r. ⌜ r ≡ searchOf (shadow.search (mapRules map) (shadowOps map)
+fn climb(form: Form, map: Map, heap: &[u8], primary: &[u8], secondary: &[u8], a: Address) -> Search
+    requires { ⌜ (goodMap (under form map) ≡ true) × (lengthsFit (under form map) (now heap, (now primary, now secondary)) ≡ true) ⌝ }
+    ensures { λ r. ⌜ r ≡ searchOf (shadow.search (mapRules (under form map)) (shadowOps (under form map))
         (now (heap .entry), (now (primary .entry), now (secondary .entry))) (a .0)) ⌝ }
 {
     let top = monitor_climb::top(map);
@@ -35,14 +37,14 @@ fn climb(map: Map, heap: &[u8], primary: &[u8], secondary: &[u8], a: Address) ->
             break Search::None;
         }
         let l = locate(map, at);
-        let r = monitor_reading::reading(heap, primary, secondary, l);
+        let r = monitor_reading::reading(form, heap, primary, secondary, l);
         if monitor_reading::damaged(r) {
             break Search::Damaged;
         }
         if monitor_reading::first(r) {
             break Search::Found(at, monitor_reading::length_of(r));
         }
-        at = monitor_climb::past(map, heap, primary, at, l);
+        at = monitor_climb::past(form, map, heap, primary, at, l);
     };
     found
 }
@@ -66,13 +68,20 @@ fn answered(s: Search) -> Answer
 }
 
 // Base and length of the first block whose base is at or above an address.
-pub fn next(map: Map, heap: &[u8], primary: &[u8], secondary: &[u8], a: Address) -> Answer
+pub fn next(
+    form: Form,
+    map: Map,
+    heap: &[u8],
+    primary: &[u8],
+    secondary: &[u8],
+    a: Address,
+) -> Answer
     ensures { λ r. ⌜ outcome r (now (heap .entry)) (now (primary .entry)) (now (secondary .entry))
-        ≡ call map (plain.next (a .0)) (now (heap .entry), (now (primary .entry), now (secondary .entry))) ⌝ }
+        ≡ call (under form map) (plain.next (a .0)) (now (heap .entry), (now (primary .entry), now (secondary .entry))) ⌝ }
 {
-    let k = guard::checked(map, heap.len(), primary.len(), secondary.len());
+    let k = guard::checked(form, map, heap.len(), primary.len(), secondary.len());
     if k != 0 {
         return guard::refusal(k);
     }
-    answered(climb(map, heap, primary, secondary, a))
+    answered(climb(form, map, heap, primary, secondary, a))
 }

@@ -7,7 +7,7 @@ use Prim.Native.Nat.{ℕ, _+_, _≤_}
 use native.Mathlib.Omega.{arith}
 use lib.ListN.{length}
 use borrow.Author.Tests.{ne-eqb}
-use Rattle.map.specs.declared.Map.{Map}
+use Rattle.map.specs.FormMap.{FormMap}
 use Rattle.map.specs.Map.{goodMap}
 use Rattle.map.proofs.MapLaws.{good-true}
 use Rattle.plain.specs.Areas.{placeLength}
@@ -18,7 +18,7 @@ use Rattle.plain.proofs.BestLaws.{best-some}
 use Rattle.heap_layout.specs.Ops.{heapGaps}
 use Rattle.heap_gap.specs.declared.Scan.{Scan}
 use Rattle.heap_gap.specs.Scans.{chosenOf, choiceOf}
-use Rattle.heap_gaps.specs.Pass.{choice}
+use Rattle.heap_gap_laws.specs.Pass.{choice}
 use Rattle.shadows.specs.Shadows.{Shadows, lengthsFit}
 use Rattle.monitor_base.specs.Calls.{call}
 use Rattle.monitor_base.proofs.LocatingLaws.{heap-lengths}
@@ -27,19 +27,19 @@ use Rattle.monitor_read_laws.proofs.PlacingLaws.{places}
 use Rattle.monitor_place.specs.Room.{Fits}
 
 -- the header's segment is among the bytes that are needed
-pub header-in : (l : ℕ) → 8 ≤ placeLength 8 l
+pub header-in : (G l : ℕ) → G ≤ placeLength G l
 unfolding placeLength
-header-in l = omega arith
+header-in G l = omega arith
 
-module _ (m : Map) (s : Shadows) (ok : goodMap m ≡ true) (fit : lengthsFit m s ≡ true) (l k : ℕ) (g : Scan) (e : choiceOf g ≡ choice (placeLength 8 l) k (s .0)) where
-  pub room-fits : g .start + g .bytes ≤ length (s .0) → Fits (m .«heap_start») l g
+module _ (m : FormMap) (s : Shadows) (ok : goodMap m ≡ true) (fit : lengthsFit m s ≡ true) (l k : ℕ) (g : Scan) (e : choiceOf g ≡ choice (m .width) (m .segment) (placeLength (m .segment) l) k (s .0)) where
+  pub room-fits : g .start + g .bytes ≤ length (s .0) → Fits (m .segment) (m .«heap_start») l g
   room-fits b =
       record {
         inside = omega (arith, b, heap-lengths m s ok fit .0, good-true m ok);
         holds = λ n.
-            best-some (placeLength 8 l) (lookedAt k (heapGaps 4 8 (length (s .0)) (s .0))) (record { start = g .start; bytes = g .bytes })
+            best-some (placeLength (m .segment) l) (lookedAt k (heapGaps (m .width) (m .segment) (length (s .0)) (s .0))) (record { start = g .start; bytes = g .bytes })
             (sym (ap (λ (x : ℕ × Option Gap). x .1) e) ∙ rw (ne-eqb (g .bytes) 0 n)) .fits;
       }
 
-  pub room-answer : l ≢ 0 → call m (place l k) s ≡ (s, roomAnswer (m .«heap_start») l (g .looked) (chosenOf g))
-  room-answer n = places m s ok fit l k n ∙ ap (λ (x : ℕ × Option Gap). (s, roomAnswer (m .«heap_start») l (x .0) (x .1))) (sym e)
+  pub room-answer : l ≢ 0 → call m (place l k) s ≡ (s, roomAnswer (m .segment) (m .«heap_start») l (g .looked) (chosenOf g))
+  room-answer n = places m s ok fit l k n ∙ ap (λ (x : ℕ × Option Gap). (s, roomAnswer (m .segment) (m .«heap_start») l (x .0) (x .1))) (sym e)

@@ -2,7 +2,7 @@
 use mathlib.Core.Path.{_≡_, sym, ap, _∙_}
 use mathlib.Core.Logic.{_≢_}
 use Prim.Native.Nat.{ℕ}
-use Rattle.map.specs.declared.Map.{Map}
+use Rattle.map.specs.FormMap.{FormMap}
 use Rattle.plain.specs.Call.{Call, refusal}
 use Rattle.plain.specs.Call as plain
 use Rattle.shadows.specs.Shadows.{Shadows}
@@ -11,7 +11,7 @@ use Rattle.monitor_base.specs.Answers.{answerOf}
 use Rattle.monitor_base.specs.Calls.{call}
 use Rattle.monitor_base.proofs.CallLaws.{early, call-early}
 
-module _ (m : Map) (c : Call) (s : Shadows) (r : Answer) where
+module _ (m : FormMap) (c : Call) (s : Shadows) (r : Answer) where
   -- the answer is x, and so is the call's
   pub answers : (x : plain.Answer) → answerOf r ≡ x → call m c s ≡ (s, x) → (s, answerOf r) ≡ call m c s
   answers x e h = ap (λ y. (s, y)) e ∙ sym h

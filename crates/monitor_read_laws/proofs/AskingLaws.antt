@@ -10,7 +10,7 @@ use denote.Enum.Declared.{tagOf}
 use lib.ListN.{length}
 use lib.Dec.{eqb}
 use Rattle.number.specs.Parts.{at}
-use Rattle.map.specs.declared.Map.{Map}
+use Rattle.map.specs.FormMap.{FormMap, areas}
 use Rattle.map.specs.declared.Area.the-variants as area
 use Rattle.map.specs.Map.{goodMap, areaOf}
 use Rattle.plain.specs.Answers.{readingOf}
@@ -40,12 +40,12 @@ in-area (Heap p) o e = let z : _≡_ {A = ℕ} 0 1 = cc in omega arith
 in-area (Stack p) o e = let z : _≡_ {A = ℕ} 0 1 = cc in omega arith
 in-area Outside o e = ⊎-elim (λ x. omega arith) (λ x. omega arith) o
 
-pub same-there : (l k : Located) (h p s : List ℕ) → l ≡ k → There l h p s → There k h p s
-same-there l k h p s e t = rw e at t
+pub same-there : (G : ℕ) (l k : Located) (h p s : List ℕ) → l ≡ k → There G l h p s → There G k h p s
+same-there G l k h p s e t = rw e at t
 
 -- ---- the call
 
-module _ (m : Map) (s : Shadows) (ok : goodMap m ≡ true) (fit : lengthsFit m s ≡ true) where
+module _ (m : FormMap) (s : Shadows) (ok : goodMap m ≡ true) (fit : lengthsFit m s ≡ true) where
   ask-inside : (a : ℕ) (r : Reading) → (readAny (mapRules m) (shadowOps m) s a ≡ r) × (mapRules m .inside a ≡ true)
       → shadowStep (mapRules m) (shadowOps m) (ask a) s ≡ (s, askReading r)
   unfolding shadowStep
@@ -54,10 +54,10 @@ module _ (m : Map) (s : Shadows) (ok : goodMap m ≡ true) (fit : lengthsFit m s
   ask-inside a damaged (e, i) = rw (i, e)
 
   abbrev read : Located → Reading
-  read l = readingAt l (s .0) (s .1 .0) (s .1 .1)
+  read l = readingAt (m .width) (m .segment) l (s .0) (s .1 .0) (s .1 .1)
 
   -- the address lies at l, in one of the areas
-  pub ask-at : (a : ℕ) (l : Located) → Lies m a l → (l ≡ Outside → ⊥) → (r : Reading) → r ≡ read l → (x : ℕ) → x ≡ originOf m l
+  pub ask-at : (a : ℕ) (l : Located) → Lies (areas m) a l → (l ≡ Outside → ⊥) → (r : Reading) → r ≡ read l → (x : ℕ) → x ≡ originOf (areas m) l
       → call m (ask a) s ≡ (s, askReading (readingUp x r))
   ask-at a (Heap q) e n r er x ex =
       call-step m (ask a) s ok fit ∙ rw (er, ex) (ask-inside a _ (read-heap m s ok fit a (q .0) (e .0) (e .1)))
@@ -65,22 +65,22 @@ module _ (m : Map) (s : Shadows) (ok : goodMap m ≡ true) (fit : lengthsFit m s
       call-step m (ask a) s ok fit ∙ rw (er, ex) (ask-inside a _ (read-stack m s ok fit a (q .0) (e .0) (e .1)))
   ask-at a Outside e n r er x ex = absurd (n refl)
 
-  pub ask-out : (a : ℕ) → areaOf m a ≡ area.Outside → call m (ask a) s ≡ (s, refusal 4)
+  pub ask-out : (a : ℕ) → areaOf (areas m) a ≡ area.Outside → call m (ask a) s ≡ (s, refusal 4)
   unfolding shadowStep
   ask-out a e = call-step m (ask a) s ok fit ∙ rw (read-out m s a e .1)
 
   -- ---- where it lies there is a reading, whose block begins where 32 bits can tell its address
 
-  pub there : (a : ℕ) (l : Located) → Lies m a l → There l (s .0) (s .1 .0) (s .1 .1)
+  pub there : (a : ℕ) (l : Located) → Lies (areas m) a l → There (m .segment) l (s .0) (s .1 .0) (s .1 .1)
   there a (Heap q) e = heap-there m s ok fit a (q .0) (e .0) (e .1)
   there a (Stack q) e = stack-there m s ok fit a (q .0) (e .0) (e .1)
   there a Outside e = tt
 
-  pub base-at : (l : Located) (r : code.Reading) → readingOf r ≡ read l → (x : ℕ) → x ≡ originOf m l → baseBelow r (4294967296 - x)
+  pub base-at : (l : Located) (r : code.Reading) → readingOf r ≡ read l → (x : ℕ) → x ≡ originOf (areas m) l → baseBelow r (4294967296 - x)
   base-at l case.Nothing e x ex = tt
   base-at l case.Damaged e x ex = tt
   base-at (Heap q) (case.Block b l o n) e x ex =
-      let t = heap.reading-told 4 8 (length (s .0)) (at (s .0)) (q .0) (b .0) l o (n % 2) (eqb (n / 2 % 2) 1) (sym e) in
+      let t = heap.reading-told (m .width) (m .segment) (length (s .0)) (at (s .0)) (q .0) (b .0) l o (n % 2) (eqb (n / 2 % 2) 1) (sym e) in
       omega (arith, t .fits, heap-lengths m s ok fit .0, ends m s ok fit .0)
   base-at (Stack q) (case.Block b l o n) e x ex =
       let t = stack.reading-told (length (s .1 .0)) (at (s .1 .0)) (at (s .1 .1)) (q .0) (b .0) l o (n % 2) (eqb (n / 2 % 2) 1) (sym e) in

@@ -5,7 +5,7 @@ use mathlib.Core.List.{[], _∷_}
 use Prim.Native.Nat.{_+_}
 use native.Mathlib.Nat.{add-zero, zero-add}
 use lib.ListN.{length}
-use Rattle.map.specs.declared.Map.{Map}
+use Rattle.map.specs.FormMap.{FormMap}
 use Rattle.map.specs.Map.{goodMap}
 use Rattle.plain.specs.declared.Audit.{Audit}
 use Rattle.plain.specs.declared.Audit.the-variants.{Totals, NoImage}
@@ -23,8 +23,8 @@ use Rattle.monitor_base.specs.Calls.{call}
 use Rattle.monitor_base.proofs.CallLaws.{call-step}
 use Rattle.monitor_base.proofs.LocatingLaws.{heap-lengths, stack-lengths}
 
-module _ (m : Map) (s : Shadows) (ok : goodMap m ≡ true) (fit : lengthsFit m s ≡ true) (h k : Audit)
-    (eh : heapTally h ≡ heapOps 4 8 (length (s .0)) .audit (s .0)) (ek : stackTally k ≡ stackOps (length (s .1 .0)) .audit (s .1)) where
+module _ (m : FormMap) (s : Shadows) (ok : goodMap m ≡ true) (fit : lengthsFit m s ≡ true) (h k : Audit)
+    (eh : heapTally h ≡ heapOps (m .width) (m .segment) (length (s .0)) .audit (s .0)) (ek : stackTally k ≡ stackOps (length (s .1 .0)) .audit (s .1)) where
   both : shadowOps m .audit s ≡ plus (heapTally h) (stackTally k)
   both =
       let x = heap-lengths m s ok fit .0 in

@@ -5,7 +5,7 @@ use mathlib.Core.Logic.{_≢_}
 use Prim.Native.Nat.{ℕ, zero, suc, _+_, _*_, _-_, _/_, _%_, _≤_, _<_}
 use native.Mathlib.Omega.{arith}
 use lib.Dec.{leb, ltb, eqb}
-use native.Mathlib.Nat.{zero-add}
+use native.Mathlib.Nat.{zero-add, div-add-mod', div-eq-of-lt-le}
 use borrow.Author.Tests.{eq-eqb, eqb-true, eqb-false, ltb-true, ltb-false}
 use Rattle.number.specs.Little.{byteOf, word}
 use Rattle.number.specs.Parts.{runOf}
@@ -96,30 +96,30 @@ cascade-damaged false false false false true t₆ r q n e = refl
 cascade-damaged false false false false false true r q n e = refl
 cascade-damaged false false false false false false r q n e = absurd (n e)
 
-module _ (size : ℕ) (f : ℕ → ℕ) where
+module _ (W G size : ℕ) (f : ℕ → ℕ) where
   abbrev H : ℕ → Reading
-  H = heapReading 4 8 size f
+  H = heapReading W G size f
 
   -- by the segment at s
   abbrev tests : (s : ℕ) → Reading → Reading
   tests s =
-      let d = word f s 4 - 1 in
+      let d = word f s W - 1 in
       let base = s - d in
-      let L = word f (base - 8 + 4) 4 in
-      cascade (eqb (word f s 4) 0) (not (eqb (d % 8) 0)) (ltb s (d + 8)) (eqb L 0) (ltb size (base + L)) (leb L d)
+      let L = word f (base - G + W) W in
+      cascade (eqb (word f s W) 0) (not (eqb (d % G) 0)) (ltb s (d + G)) (eqb L 0) (ltb size (base + L)) (leb L d)
 
   abbrev below : (s p w : ℕ) → Reading
   below s p w =
-      let base = s - (word f s 4 - 1) in
-      let L = word f (base - 8 + 4) 4 in
+      let base = s - (word f s W - 1) in
+      let L = word f (base - G + W) W in
       cond (leb L (p - base)) nothing (block base L (p - base) w false)
 
-  by-tests : (p : ℕ) → H p ≡ tests (p / 8 * 8) (below (p / 8 * 8) p (writtenBit 4 8 f p))
+  by-tests : (p : ℕ) → H p ≡ tests (p / G * G) (below (p / G * G) p (writtenBit W G f p))
   unfolding heapReading cascade
   by-tests p = refl
 
   below-whole : (s p w : ℕ) → below s p w ≡ damaged → ⊥
-  below-whole s p w e = go (leb (word f (s - (word f s 4 - 1) - 8 + 4) 4) (p - (s - (word f s 4 - 1)))) _ _ _ _ e
+  below-whole s p w e = go (leb (word f (s - (word f s W - 1) - G + W) W) (p - (s - (word f s W - 1)))) _ _ _ _ e
     where
       go : (t : Bool) (b l o w : ℕ) → cond t nothing (block b l o w false) ≡ damaged → ⊥
       go true b l o w e = not-damaged e
@@ -129,19 +129,19 @@ module _ (size : ℕ) (f : ℕ → ℕ) where
   same-segment s t p w e h = rw e at h
 
   -- the readings of a segment are all damaged or none is
-  one-damaged : (p x : ℕ) → x / 8 * 8 ≡ p / 8 * 8 → H x ≡ damaged → H p ≡ damaged
+  one-damaged : (p x : ℕ) → x / G * G ≡ p / G * G → H x ≡ damaged → H p ≡ damaged
   one-damaged p x e h =
       by-tests p
-      ∙ cascade-damaged _ _ _ _ _ _ _ _ (below-whole (p / 8 * 8) x (writtenBit 4 8 f x)) (same-segment (x / 8 * 8) (p / 8 * 8) x (writtenBit 4 8 f x) e (sym (by-tests x) ∙ h))
+      ∙ cascade-damaged _ _ _ _ _ _ _ _ (below-whole (p / G * G) x (writtenBit W G f x)) (same-segment (x / G * G) (p / G * G) x (writtenBit W G f x) e (sym (by-tests x) ∙ h))
 
   -- no block begins inside a segment
-  inner : (x : ℕ) → x % 8 ≢ 0 → (H x ≡ damaged → ⊥) → Goes (H x)
+  inner : (x : ℕ) → x % G ≢ 0 → (H x ≡ damaged → ⊥) → Goes (H x)
   inner x n d = go (H x) refl
     where
       go : (r : Reading) → H x ≡ r → Goes r
       go nothing e = tt
       go damaged e = d e
-      go (block b l zero w t) e = let k = heap.reading-told 4 8 size f x b l 0 w t e in let z : x ≡ b = omega (arith, k .low, k .offset) in n (rw z (k .aligned))
+      go (block b l zero w t) e = let k = heap.reading-told W G size f x b l 0 w t e in let z : x ≡ b = omega (arith, k .low, k .offset) in n (rw z (k .aligned))
       go (block b l (suc o) w t) e = tt
 
   whole : (r : Reading) → Goes r → r ≡ damaged → ⊥
@@ -150,21 +150,18 @@ module _ (size : ℕ) (f : ℕ → ℕ) where
   whole damaged g e = g
 
   -- where the climb goes on above the reading of position p, it does so in the rest of its segment
-  pub goes-segment : (p x : ℕ) → Goes (H p) → p ≤ x → x < p / 8 * 8 + 8 → Goes (H x)
+  pub goes-segment : (p x : ℕ) → Goes (H p) → p ≤ x → x < p / G * G + G → Goes (H x)
   goes-segment p x g i j = go (test (eqb x p))
     where
+      same : x / G ≡ p / G
+      same = div-eq-of-lt-le {k = p / G} G {m = x} (omega (arith, div-add-mod' p G)) (omega arith)
+
       go : Test (eqb x p) → Goes (H x)
       go (is-true e) = rw (eqb-true x p e) g
-      go (is-false e) = let k = eqb-false x p e in inner x (λ q. omega arith) (λ q. whole (H p) g (one-damaged p x (omega arith) q))
-
--- one free segment more
-pub free-more : (f : ℕ → ℕ) (lo q : ℕ) → q % 8 ≡ 0 → ((x : ℕ) → lo ≤ x → x < q → word f (x / 8 * 8) 4 ≡ 0) → word f q 4 ≡ 0
-    → (x : ℕ) → lo ≤ x → x < q + 8 → word f (x / 8 * 8) 4 ≡ 0
-free-more f lo q a free e x i j = go (test (ltb x q))
-  where
-    go : Test (ltb x q) → word f (x / 8 * 8) 4 ≡ 0
-    go (is-true t) = free x i (ltb-true x q t)
-    go (is-false t) = let h = ltb-false x q t in let z : x / 8 * 8 ≡ q = omega arith in rw z e
+      go (is-false e) =
+          let k = eqb-false x p e in
+          let y : x / G * G ≡ p / G * G = rw same in
+          inner x (λ q. omega (arith, div-add-mod' x G, div-add-mod' p G)) (λ q. whole (H p) g (one-damaged p x y q))
 
 -- ---- the stack
 

@@ -8,7 +8,7 @@ use lib.ListN.{length}
 use borrow.Author.Tests.{eq-eqb, ne-eqb}
 use Rattle.number.specs.Parts.{at}
 use Rattle.number.proofs.TestLaws.{Test, is-true, is-false, test, false-of}
-use Rattle.map.specs.declared.Map.{Map}
+use Rattle.map.specs.FormMap.{FormMap, areas}
 use Rattle.map.specs.declared.Area.the-variants.{Heap, Stack, Outside}
 use Rattle.map.specs.Map.{goodMap, within, areaOf}
 use Rattle.map.proofs.MapLaws.{Good, good-true, within-true, true-within}
@@ -37,7 +37,7 @@ same-none nothing = refl
 same-none (block b l o w t) = refl
 same-none damaged = refl
 
-module _ (m : Map) (s : Shadows) (ok : goodMap m ≡ true) (fit : lengthsFit m s ≡ true) where
+module _ (m : FormMap) (s : Shadows) (ok : goodMap m ≡ true) (fit : lengthsFit m s ≡ true) where
   abbrev hs : ℕ
   hs = m .«heap_start»
 
@@ -49,7 +49,7 @@ module _ (m : Map) (s : Shadows) (ok : goodMap m ≡ true) (fit : lengthsFit m s
   rd = readAny (mapRules m) (shadowOps m) s
 
   abbrev H : ℕ → Reading
-  H = heapReading 4 8 (length (s .0)) (at (s .0))
+  H = heapReading (m .width) (m .segment) (length (s .0)) (at (s .0))
 
   abbrev K : ℕ → Reading
   K = stackReading (length (s .1 .0)) (at (s .1 .0)) (at (s .1 .1))
@@ -62,7 +62,7 @@ module _ (m : Map) (s : Shadows) (ok : goodMap m ≡ true) (fit : lengthsFit m s
   -- a block of the heap begins in the heap, one of the stack in the stack
   bases : (p q b l o w c k i v : ℕ) (t u : Bool) → H p ≡ block b l o w t → K q ≡ block c k i v u → hs + b ≢ ss + c
   bases p q b l o w c k i v t u e f h =
-      let d = heap.reading-told 4 8 (length (s .0)) (at (s .0)) p b l o w t e in
+      let d = heap.reading-told (m .width) (m .segment) (length (s .0)) (at (s .0)) p b l o w t e in
       let g = stack.reading-told (length (s .1 .0)) (at (s .1 .0)) (at (s .1 .1)) q c k i v u f in
       let x = heap-lengths m s ok fit .0 in
       let y = stack-lengths m s ok fit .0 in
@@ -90,42 +90,42 @@ module _ (m : Map) (s : Shadows) (ok : goodMap m ≡ true) (fit : lengthsFit m s
 
   -- r is the reading of the first byte, t that of the byte at b; w says whether the bytes are to be written
   module _ (w : Bool) (n : ℕ) (r t : Reading) (b q : ℕ) (x : Answer) where
-    pub valid-heap-heap : (p : ℕ) → r ≡ H p → areaOf m b ≡ Heap → q ≡ b - hs → t ≡ H q → x ≡ validAnswer false n r t
+    pub valid-heap-heap : (p : ℕ) → r ≡ H p → areaOf (areas m) b ≡ Heap → q ≡ b - hs → t ≡ H q → x ≡ validAnswer false n r t
         → x ≡ validAnswer w n (readingUp hs (H p)) (rd b)
     valid-heap-heap p er e z et y =
-        y ∙ rw (er, et, read-heap m s ok fit b q e z .0) (sym (valid-up w n hs (H p) (H q) ∙ valid-any w n (H p) (H q) (heap-literal (length (s .0)) (at (s .0)) p)))
+        y ∙ rw (er, et, read-heap m s ok fit b q e z .0) (sym (valid-up w n hs (H p) (H q) ∙ valid-any w n (H p) (H q) (heap-literal (m .width) (m .segment) (length (s .0)) (at (s .0)) p)))
 
-    pub valid-stack-stack : (p : ℕ) → r ≡ K p → areaOf m b ≡ Stack → q ≡ b - ss → t ≡ K q → x ≡ validAnswer w n r t
+    pub valid-stack-stack : (p : ℕ) → r ≡ K p → areaOf (areas m) b ≡ Stack → q ≡ b - ss → t ≡ K q → x ≡ validAnswer w n r t
         → x ≡ validAnswer w n (readingUp ss (K p)) (rd b)
     valid-stack-stack p er e z et y = y ∙ rw (er, et, read-stack m s ok fit b q e z .0) (sym (valid-up w n ss (K p) (K q)))
 
-    pub valid-heap-stack : (p : ℕ) → r ≡ H p → areaOf m b ≡ Stack → q ≡ b - ss → t ≡ K q → x ≡ apartAnswer r t
+    pub valid-heap-stack : (p : ℕ) → r ≡ H p → areaOf (areas m) b ≡ Stack → q ≡ b - ss → t ≡ K q → x ≡ apartAnswer r t
         → x ≡ validAnswer w n (readingUp hs (H p)) (rd b)
     valid-heap-stack p er e z et y =
         rw (read-stack m s ok fit b q e z .0) (valid-apart w n (H p) (K q) _ _ (up-damaged hs (H p)) (up-damaged ss (K q)) (heap-stack p q) x (y ∙ rw (er, et)))
 
-    pub valid-stack-heap : (p : ℕ) → r ≡ K p → areaOf m b ≡ Heap → q ≡ b - hs → t ≡ H q → x ≡ apartAnswer r t
+    pub valid-stack-heap : (p : ℕ) → r ≡ K p → areaOf (areas m) b ≡ Heap → q ≡ b - hs → t ≡ H q → x ≡ apartAnswer r t
         → x ≡ validAnswer w n (readingUp ss (K p)) (rd b)
     valid-stack-heap p er e z et y =
         rw (read-heap m s ok fit b q e z .0) (valid-apart w n (K p) (H q) _ _ (up-damaged ss (K p)) (up-damaged hs (H q)) (stack-heap p q) x (y ∙ rw (er, et)))
 
   -- the first byte lies in neither area
   module _ (w : Bool) (n : ℕ) (t : Reading) (b q : ℕ) (x : Answer) where
-    pub valid-out-heap : areaOf m b ≡ Heap → q ≡ b - hs → t ≡ H q → x ≡ apartAnswer nothing t → x ≡ validAnswer w n nothing (rd b)
+    pub valid-out-heap : areaOf (areas m) b ≡ Heap → q ≡ b - hs → t ≡ H q → x ≡ apartAnswer nothing t → x ≡ validAnswer w n nothing (rd b)
     valid-out-heap e z et y =
         rw (read-heap m s ok fit b q e z .0) (valid-apart w n nothing (H q) nothing _ refl (up-damaged hs (H q)) refl x (y ∙ rw et))
 
-    pub valid-out-stack : areaOf m b ≡ Stack → q ≡ b - ss → t ≡ K q → x ≡ apartAnswer nothing t → x ≡ validAnswer w n nothing (rd b)
+    pub valid-out-stack : areaOf (areas m) b ≡ Stack → q ≡ b - ss → t ≡ K q → x ≡ apartAnswer nothing t → x ≡ validAnswer w n nothing (rd b)
     valid-out-stack e z et y =
         rw (read-stack m s ok fit b q e z .0) (valid-apart w n nothing (K q) nothing _ refl (up-damaged ss (K q)) refl x (y ∙ rw et))
 
   -- the byte at b lies in neither area
-  pub valid-out : (w : Bool) (n start : ℕ) (r R : Reading) (b : ℕ) (x : Answer) → r ≡ R → areaOf m b ≡ Outside → x ≡ apartAnswer r nothing
+  pub valid-out : (w : Bool) (n start : ℕ) (r R : Reading) (b : ℕ) (x : Answer) → r ≡ R → areaOf (areas m) b ≡ Outside → x ≡ apartAnswer r nothing
       → x ≡ validAnswer w n (readingUp start R) (rd b)
   valid-out w n start r R b x er e y =
       rw (read-out m s b e .0) (valid-apart w n R nothing _ nothing (up-damaged start R) refl (same-none (readingUp start R)) x (y ∙ rw er))
 
-  pub valid-out-out : (w : Bool) (n b : ℕ) (x : Answer) → areaOf m b ≡ Outside → x ≡ yesNo false → x ≡ validAnswer w n nothing (rd b)
+  pub valid-out-out : (w : Bool) (n b : ℕ) (x : Answer) → areaOf (areas m) b ≡ Outside → x ≡ yesNo false → x ≡ validAnswer w n nothing (rd b)
   unfolding validAnswer
   valid-out-out w n b x e y = rw (read-out m s b e .0) y
 
@@ -158,20 +158,20 @@ module _ (m : Map) (s : Shadows) (ok : goodMap m ≡ true) (fit : lengthsFit m s
       go (is-false d) (is-false i) = rw (ne-eqb n 0 z, er, up-damaged start r, d, up-one n start r, i)
       go (is-false d) (is-true i) = rw (ne-eqb n 0 z, er, up-damaged start r, d, up-one n start r, i, f i)
 
-  pub initialised-heap : (a n p : ℕ) → n ≢ 0 → areaOf m a ≡ Heap → p ≡ a - hs
-      → call m (initialised a n) s ≡ (s, initialisedAnswer n (H p) (rangeMarked (heapOps 4 8 (length (s .0))) (s .0) p n))
+  pub initialised-heap : (a n p : ℕ) → n ≢ 0 → areaOf (areas m) a ≡ Heap → p ≡ a - hs
+      → call m (initialised a n) s ≡ (s, initialisedAnswer n (H p) (rangeMarked (heapOps (m .width) (m .segment) (length (s .0))) (s .0) p n))
   initialised-heap a n p z e q =
       initialised-reads a n hs z (H p) (read-heap m s ok fit a p e q .0) _
-      (λ i. sym (range-same (heapOps 4 8 (length (s .0))) (shadowOps m) (s .0) s n p a (bit (heap-room (length (s .0)) (at (s .0)) p n i))))
+      (λ i. sym (range-same (heapOps (m .width) (m .segment) (length (s .0))) (shadowOps m) (s .0) s n p a (bit (heap-room (m .width) (m .segment) (length (s .0)) (at (s .0)) p n i))))
     where
-      bit : p + n ≤ length (s .0) → (i : ℕ) → i < n → heapMarked 4 8 (s .0) (p + i) ≡ shadowOps m .marked s (a + i)
+      bit : p + n ≤ length (s .0) → (i : ℕ) → i < n → heapMarked (m .width) (m .segment) (s .0) (p + i) ≡ shadowOps m .marked s (a + i)
       bit room i k =
           let x = heap-lengths m s ok fit .0 in
-          let w = within-true hs (m .«heap_size») a (area-heap m a e) in
+          let w = within-true hs (m .«heap_size») a (area-heap (areas m) a e) in
           let y : a + i - hs ≡ p + i = omega arith in
           rw (true-within hs (m .«heap_size») (a + i) (omega arith) (omega arith), y)
 
-  pub initialised-stack : (a n p : ℕ) → n ≢ 0 → areaOf m a ≡ Stack → p ≡ a - ss
+  pub initialised-stack : (a n p : ℕ) → n ≢ 0 → areaOf (areas m) a ≡ Stack → p ≡ a - ss
       → call m (initialised a n) s ≡ (s, initialisedAnswer n (K p) (rangeMarked (stackOps (length (s .1 .0))) (s .1) p n))
   initialised-stack a n p z e q =
       initialised-reads a n ss z (K p) (read-stack m s ok fit a p e q .0) _
@@ -180,12 +180,12 @@ module _ (m : Map) (s : Shadows) (ok : goodMap m ≡ true) (fit : lengthsFit m s
       bit : p + n ≤ length (s .1 .0) → (i : ℕ) → i < n → stackMarked (s .1) (p + i) ≡ shadowOps m .marked s (a + i)
       bit room i k =
           let x = stack-lengths m s ok fit .0 in
-          let w = within-true ss (m .«stack_size») a (area-stack m a e .1) in
+          let w = within-true ss (m .«stack_size») a (area-stack (areas m) a e .1) in
           let y : a + i - ss ≡ p + i = omega arith in
           let out : within hs (m .«heap_size») (a + i) ≡ false =
           false-of _ (λ t. let u = within-true hs (m .«heap_size») (a + i) t in good .noShare (omega arith) (omega arith)) in
           rw (out, y)
 
-  pub initialised-out : (a n : ℕ) → n ≢ 0 → areaOf m a ≡ Outside → call m (initialised a n) s ≡ (s, yesNo false)
+  pub initialised-out : (a n : ℕ) → n ≢ 0 → areaOf (areas m) a ≡ Outside → call m (initialised a n) s ≡ (s, yesNo false)
   unfolding shadowStep
   initialised-out a n z e = call-step m (initialised a n) s ok fit ∙ rw (ne-eqb n 0 z, read-out m s a e .0)

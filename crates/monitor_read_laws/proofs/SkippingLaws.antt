@@ -4,6 +4,7 @@ use mathlib.Core.Bool.{Bool, true, false, true≢false, false≢true}
 use mathlib.Core.List.{List}
 use Prim.Native.Nat.{ℕ, zero, suc, _+_, _*_, _-_, _/_, _%_, _≤_, _<_}
 use native.Mathlib.Omega.{arith, by-contra}
+use native.Mathlib.Nat.{div-add-mod', mod-lt}
 use lib.Dec.{ltb, eqb}
 use lib.ListN.{length}
 use borrow.Author.Tests.{eq-eqb, eqb-true, eqb-false, ltb-true, ltb-false}
@@ -11,9 +12,10 @@ use Rattle.number.specs.Little.{word}
 use Rattle.number.specs.Parts.{at}
 use Rattle.number.proofs.TestLaws.{Test, is-true, is-false, test, or-case, false-of}
 use Rattle.map.specs.declared.Map.{Map}
+use Rattle.map.specs.FormMap.{FormMap, areas}
 use Rattle.map.specs.declared.Area.the-variants as area
 use Rattle.map.specs.Map.{goodMap, within, areaOf}
-use Rattle.map.proofs.MapLaws.{Good, good-true, within-true, true-within}
+use Rattle.map.proofs.MapLaws.{Good, good-true, within-true, true-within, segment-least}
 use Rattle.plain.specs.Areas.{mapRules}
 use Rattle.plain.specs.Lift.{readingUp}
 use Rattle.plain.specs.Ops.{readAny}
@@ -33,7 +35,7 @@ use Rattle.monitor_read_laws.specs.Asked.{readingAt, originOf}
 use Rattle.monitor_read_laws.specs.Climbed.{startAbove, Skips}
 use Rattle.monitor_read_laws.proofs.ClimbingLaws.{Goes, goes, goes-up, goes-down, goes-same, climb-over, climb-first, climb-damaged, goes-segment, zero-byte}
 
-module _ (m : Map) (s : Shadows) (ok : goodMap m ≡ true) (fit : lengthsFit m s ≡ true) where
+module _ (m : FormMap) (s : Shadows) (ok : goodMap m ≡ true) (fit : lengthsFit m s ≡ true) where
   abbrev hs : ℕ
   hs = m .«heap_start»
 
@@ -49,7 +51,7 @@ module _ (m : Map) (s : Shadows) (ok : goodMap m ≡ true) (fit : lengthsFit m s
   good : Good m
   good = good-true m ok
 
-  in-heap : (q : ℕ) → q < length (s .0) → rd (hs + q) ≡ readingUp hs (heapReading 4 8 (length (s .0)) (at (s .0)) q)
+  in-heap : (q : ℕ) → q < length (s .0) → rd (hs + q) ≡ readingUp hs (heapReading (m .width) (m .segment) (length (s .0)) (at (s .0)) q)
   unfolding readAny
   in-heap q h =
       let l = heap-lengths m s ok fit .0 in
@@ -77,29 +79,32 @@ module _ (m : Map) (s : Shadows) (ok : goodMap m ≡ true) (fit : lengthsFit m s
   abbrev Goes-to : (a r : ℕ) → Type 0
   Goes-to a r = (a < r) × (r ≤ top) × (from rd top a ≡ from rd top r)
 
-  over-heap : (a p z : ℕ) → hs ≤ a → p ≡ a - hs → p < length (s .0) → Goes (rd a) → p / 8 * 8 + 8 ≤ z → z ≤ length (s .0)
-      → ((x : ℕ) → p / 8 * 8 + 8 ≤ x → x < z → word (at (s .0)) (x / 8 * 8) 4 ≡ 0) → Goes-to a (hs + z)
+  over-heap : (a p z : ℕ) → hs ≤ a → p ≡ a - hs → p < length (s .0) → Goes (rd a) → p / m .segment * m .segment + m .segment ≤ z → z ≤ length (s .0)
+      → ((x : ℕ) → p / m .segment * m .segment + m .segment ≤ x → x < z → word (at (s .0)) (x / m .segment * m .segment) (m .width) ≡ 0) → Goes-to a (hs + z)
   over-heap a p z le ep lt g lo hi free =
       let l = heap-lengths m s ok fit .0 in
-      (omega arith, omega arith, climb-over rd top a (hs + z) (omega arith) (omega arith) each)
+      (omega (arith, below), omega arith, climb-over rd top a (hs + z) (omega (arith, below)) (omega arith) each)
     where
+      below : p < z
+      below = omega (arith, div-add-mod' p (m .segment), mod-lt p {m = m .segment} (omega (arith, segment-least m)))
+
       e : hs + p ≡ a
       e = omega arith
 
-      first : Goes (heapReading 4 8 (length (s .0)) (at (s .0)) p)
+      first : Goes (heapReading (m .width) (m .segment) (length (s .0)) (at (s .0)) p)
       first =
-          let r = heapReading 4 8 (length (s .0)) (at (s .0)) p in
+          let r = heapReading (m .width) (m .segment) (length (s .0)) (at (s .0)) p in
           goes-down hs r (goes-same (readingUp hs r) (rd a) (sym (in-heap p lt) ∙ ap rd e) g)
 
       each : (x : ℕ) → a ≤ x → x < hs + z → Goes (rd x)
       each x i j =
           let u : hs + (x - hs) ≡ x = omega arith in
-          let r = heapReading 4 8 (length (s .0)) (at (s .0)) (x - hs) in
-          goes-same (rd x) (readingUp hs r) (ap rd (sym u) ∙ in-heap (x - hs) (omega arith)) (goes-up hs r (go (test (ltb (x - hs) (p / 8 * 8 + 8)))))
+          let r = heapReading (m .width) (m .segment) (length (s .0)) (at (s .0)) (x - hs) in
+          goes-same (rd x) (readingUp hs r) (ap rd (sym u) ∙ in-heap (x - hs) (omega arith)) (goes-up hs r (go (test (ltb (x - hs) (p / m .segment * m .segment + m .segment)))))
         where
-          go : Test (ltb (x - hs) (p / 8 * 8 + 8)) → Goes (heapReading 4 8 (length (s .0)) (at (s .0)) (x - hs))
-          go (is-true t) = goes-segment (length (s .0)) (at (s .0)) p (x - hs) first (omega arith) (ltb-true _ _ t)
-          go (is-false t) = goes-same (heapReading 4 8 (length (s .0)) (at (s .0)) (x - hs)) nothing (heap.read-none 4 8 (length (s .0)) (at (s .0)) (x - hs) (free (x - hs) (ltb-false _ _ t) (omega arith))) tt
+          go : Test (ltb (x - hs) (p / m .segment * m .segment + m .segment)) → Goes (heapReading (m .width) (m .segment) (length (s .0)) (at (s .0)) (x - hs))
+          go (is-true t) = goes-segment (m .width) (m .segment) (length (s .0)) (at (s .0)) p (x - hs) first (omega arith) (ltb-true _ _ t)
+          go (is-false t) = goes-same (heapReading (m .width) (m .segment) (length (s .0)) (at (s .0)) (x - hs)) nothing (heap.read-none (m .width) (m .segment) (length (s .0)) (at (s .0)) (x - hs) (free (x - hs) (ltb-false _ _ t) (omega arith))) tt
 
   over-stack : (a p z : ℕ) → ss ≤ a → p ≡ a - ss → Goes (rd a) → p + 1 ≤ z → z ≤ length (s .1 .0)
       → ((x : ℕ) → p + 1 ≤ x → x < z → at (s .1 .0) x ≡ 0) → Goes-to a (ss + z)
@@ -125,17 +130,17 @@ module _ (m : Map) (s : Shadows) (ok : goodMap m ≡ true) (fit : lengthsFit m s
   abbrev Clear-to : (a r : ℕ) → Type 0
   Clear-to a r = (a < r) × (r ≤ top) × ((x : ℕ) → a ≤ x → x < r → (hs ≤ x → x < hs + m .«heap_size» → ⊥) × (ss ≤ x → x < ss + m .«stack_size» → ⊥))
 
-  start-above : (a : ℕ) → a < top → (hs ≤ a → a < hs + m .«heap_size» → ⊥) → (ss ≤ a → a < ss + m .«stack_size» → ⊥) → Clear-to a (startAbove m a)
+  start-above : (a : ℕ) → a < top → (hs ≤ a → a < hs + m .«heap_size» → ⊥) → (ss ≤ a → a < ss + m .«stack_size» → ⊥) → Clear-to a (startAbove (areas m) a)
   unfolding startAbove
   start-above a lt nh ns = go (test (ltb hs ss)) (test (ltb a hs)) (test (ltb a ss))
     where
       heap-least : 16 ≤ m .«heap_size»
-      heap-least = good .heapLeast
+      heap-least = omega (arith, segment-least m, good .heapLeast)
 
       stack-least : 16 ≤ m .«stack_size»
       stack-least = good .stackLeast
 
-      go : Test (ltb hs ss) → Test (ltb a hs) → Test (ltb a ss) → Clear-to a (startAbove m a)
+      go : Test (ltb hs ss) → Test (ltb a hs) → Test (ltb a ss) → Clear-to a (startAbove (areas m) a)
       go (is-true t) (is-true u) v =
           let h : hs < ss = ltb-true _ _ t in
           let k : a < hs = ltb-true _ _ u in
@@ -164,53 +169,53 @@ module _ (m : Map) (s : Shadows) (ok : goodMap m ≡ true) (fit : lengthsFit m s
           rw (t, v) c
 
   -- where the climb goes on above the reading of a, it goes on at r
-  pub skips : (a : ℕ) (l : Located) → Lies m a l → a < top → Goes (rd a) → (r : ℕ) → Skips m (s .0) (s .1 .0) a l r → Goes-to a r
+  pub skips : (a : ℕ) (l : Located) → Lies (areas m) a l → a < top → Goes (rd a) → (r : ℕ) → Skips m (s .0) (s .1 .0) a l r → Goes-to a r
   skips a (Heap q) i lt g r (z, e, f) =
-      let w = within-true hs (m .«heap_size») a (area-heap m a (i .0)) in
+      let w = within-true hs (m .«heap_size») a (area-heap (areas m) a (i .0)) in
       let l = heap-lengths m s ok fit .0 in
       rw e (over-heap a (q .0) z (w .0) (i .1) (omega arith) g (f .0) (f .1) (f .2))
   skips a (Stack q) i lt g r (z, e, f) =
-      let w = within-true ss (m .«stack_size») a (area-stack m a (i .0) .1) in
+      let w = within-true ss (m .«stack_size») a (area-stack (areas m) a (i .0) .1) in
       rw e (over-stack a (q .0) z (w .0) (i .1) g (f .0) (f .1) (f .2))
   skips a Outside i lt g r e =
-      let n = area-out m a i in
+      let n = area-out (areas m) a i in
       let c = start-above a lt (λ p q. true≢false (sym (true-within hs (m .«heap_size») a p q) ∙ n .0)) (λ p q. true≢false (sym (true-within ss (m .«stack_size») a p q) ∙ n .1)) in
-      rw e (over-outside a (startAbove m a) (c .0) (c .1) (c .2))
+      rw e (over-outside a (startAbove (areas m) a) (c .0) (c .1) (c .2))
 
   -- ---- what the reading of an address that lies there settles
 
   abbrev at-place : Located → Reading
-  at-place l = readingAt l (s .0) (s .1 .0) (s .1 .1)
+  at-place l = readingAt (m .width) (m .segment) l (s .0) (s .1 .0) (s .1 .1)
 
-  read-at : (a : ℕ) (l : Located) → Lies m a l → rd a ≡ readingUp (originOf m l) (at-place l)
+  read-at : (a : ℕ) (l : Located) → Lies (areas m) a l → rd a ≡ readingUp (originOf (areas m) l) (at-place l)
   read-at a (Heap q) i = read-heap m s ok fit a (q .0) (i .0) (i .1) .0
   read-at a (Stack q) i = read-stack m s ok fit a (q .0) (i .0) (i .1) .0
   read-at a Outside i = read-out m s a i .0
 
-  pub goes-at : (a : ℕ) (l : Located) → Lies m a l → (r : Reading) → r ≡ at-place l → isDamaged r ≡ false → isFirst r ≡ false → Goes (rd a)
-  goes-at a l i r e d f = goes-same (rd a) (readingUp (originOf m l) r) (read-at a l i ∙ ap (readingUp (originOf m l)) (sym e)) (goes-up (originOf m l) r (goes r d f))
+  pub goes-at : (a : ℕ) (l : Located) → Lies (areas m) a l → (r : Reading) → r ≡ at-place l → isDamaged r ≡ false → isFirst r ≡ false → Goes (rd a)
+  goes-at a l i r e d f = goes-same (rd a) (readingUp (originOf (areas m) l) r) (read-at a l i ∙ ap (readingUp (originOf (areas m) l)) (sym e)) (goes-up (originOf (areas m) l) r (goes r d f))
 
-  pub damaged-at : (a : ℕ) (l : Located) → Lies m a l → a < top → (r : Reading) → r ≡ at-place l → isDamaged r ≡ true → from rd top a ≡ damaged
+  pub damaged-at : (a : ℕ) (l : Located) → Lies (areas m) a l → a < top → (r : Reading) → r ≡ at-place l → isDamaged r ≡ true → from rd top a ≡ damaged
   damaged-at a l i h nothing e d = absurd (false≢true d)
   damaged-at a l i h (block b n o w t) e d = absurd (false≢true d)
-  damaged-at a l i h damaged e d = climb-damaged rd top a h (read-at a l i ∙ ap (readingUp (originOf m l)) (sym e))
+  damaged-at a l i h damaged e d = climb-damaged rd top a h (read-at a l i ∙ ap (readingUp (originOf (areas m) l)) (sym e))
 
   -- a reading with offset 0 is of its block's base
-  base-is : (a : ℕ) (l : Located) → Lies m a l → (b n w : ℕ) (k : Bool) → block b n 0 w k ≡ at-place l → originOf m l + b ≡ a
+  base-is : (a : ℕ) (l : Located) → Lies (areas m) a l → (b n w : ℕ) (k : Bool) → block b n 0 w k ≡ at-place l → originOf (areas m) l + b ≡ a
   base-is a (Heap q) i b n w k e =
-      let t = heap.reading-told 4 8 (length (s .0)) (at (s .0)) (q .0) b n 0 w k (sym e) in
-      let u = within-true hs (m .«heap_size») a (area-heap m a (i .0)) in
+      let t = heap.reading-told (m .width) (m .segment) (length (s .0)) (at (s .0)) (q .0) b n 0 w k (sym e) in
+      let u = within-true hs (m .«heap_size») a (area-heap (areas m) a (i .0)) in
       omega (arith, t .low, t .offset, u .0, i .1)
   base-is a (Stack q) i b n w k e =
       let t = stack.reading-told (length (s .1 .0)) (at (s .1 .0)) (at (s .1 .1)) (q .0) b n 0 w k (sym e) in
-      let u = within-true ss (m .«stack_size») a (area-stack m a (i .0) .1) in
+      let u = within-true ss (m .«stack_size») a (area-stack (areas m) a (i .0) .1) in
       omega (arith, t .low, t .offset, u .0, i .1)
   base-is a Outside i b n w k e = absurd (let z : _≡_ {A = ℕ} 0 1 = cc in omega arith)
 
-  pub first-at : (a : ℕ) (l : Located) → Lies m a l → a < top → (r : Reading) → r ≡ at-place l → isFirst r ≡ true → (w : ℕ) × (k : Bool) × (from rd top a ≡ block a (lengthOf r) 0 w k)
+  pub first-at : (a : ℕ) (l : Located) → Lies (areas m) a l → a < top → (r : Reading) → r ≡ at-place l → isFirst r ≡ true → (w : ℕ) × (k : Bool) × (from rd top a ≡ block a (lengthOf r) 0 w k)
   first-at a l i h nothing e f = absurd (false≢true f)
   first-at a l i h (block b n zero w k) e f =
-      (w, k, rw (base-is a l i b n w k e) at (climb-first rd top a (originOf m l + b) n 0 w k h (read-at a l i ∙ ap (readingUp (originOf m l)) (sym e)) refl))
+      (w, k, rw (base-is a l i b n w k e) at (climb-first rd top a (originOf (areas m) l + b) n 0 w k h (read-at a l i ∙ ap (readingUp (originOf (areas m) l)) (sym e)) refl))
   first-at a l i h (block b n (suc o) w k) e f = absurd (omega (arith, eqb-true (suc o) 0 f))
   first-at a l i h damaged e f = absurd (false≢true f)
 
@@ -219,22 +224,22 @@ module _ (m : Map) (s : Shadows) (ok : goodMap m ≡ true) (fit : lengthsFit m s
 pub same-lies : (m : Map) (a : ℕ) (l k : Located) → l ≡ k → Lies m a l → Lies m a k
 same-lies m a l k e i = rw e at i
 
-pub same-skips : (m : Map) (h p : List ℕ) (a r : ℕ) (l k : Located) → l ≡ k → Skips m h p a k r → Skips m h p a l r
+pub same-skips : (m : FormMap) (h p : List ℕ) (a r : ℕ) (l k : Located) → l ≡ k → Skips m h p a k r → Skips m h p a l r
 same-skips m h p a r l k e i = rw e i
 
-module _ (m : Map) (h p : List ℕ) (ok : goodMap m ≡ true) (eh : length h ≡ m .«heap_size») (ep : length p ≡ m .«stack_size») where
+module _ (m : FormMap) (h p : List ℕ) (ok : goodMap m ≡ true) (eh : length h ≡ m .«heap_size») (ep : length p ≡ m .«stack_size») where
   -- the secondary has no part in this
   fits : lengthsFit m (h, (p, p)) ≡ true
   unfolding lengthsFit
   fits = rw (eq-eqb _ _ eh, eq-eqb _ _ ep)
 
-  pub lies-heap : (a q : ℕ) → areaOf m a ≡ area.Heap → q ≡ a - m .«heap_start»
-      → (q < length h) × (length h % 8 ≡ 0) × (length h ≤ 131072) × (m .«heap_start» + length h ≤ 4294967295)
+  pub lies-heap : (a q : ℕ) → areaOf (areas m) a ≡ area.Heap → q ≡ a - m .«heap_start»
+      → (q < length h) × (length h % m .segment ≡ 0) × (length h ≤ 131072) × (m .«heap_start» + length h ≤ 4294967295)
   lies-heap a q e i =
       let t = heap-there m (h, (p, p)) ok fits a q e i in
       (t .0, t .1, t .2, rw eh (good-true m ok .heapEnd))
 
-  pub lies-stack : (a q : ℕ) → areaOf m a ≡ area.Stack → q ≡ a - m .«stack_start»
+  pub lies-stack : (a q : ℕ) → areaOf (areas m) a ≡ area.Stack → q ≡ a - m .«stack_start»
       → (q < length p) × (length p ≤ 65536) × (m .«stack_start» + length p ≤ 4294967295)
   lies-stack a q e i =
       let t = stack-there m (h, (p, p)) ok fits a q e i in

@@ -19,16 +19,16 @@ use Rattle.monitor_base.specs.declared.Located.{Located}
 use Rattle.monitor_base.specs.declared.Located.the-variants.{Heap, Stack, Outside}
 
 -- the position lies in the area's shadows, whose lengths are those of a good map
-abbrev pub There : Located → (heap primary secondary : List ℕ) → Type 0
-There (Heap q) h p s = (q .0 < length h) × (length h % 8 ≡ 0) × (length h ≤ 131072)
-There (Stack q) h p s = (q .0 < length p) × (length p ≡ length s) × (length p ≤ 65536)
-There Outside h p s = Unit {0}
+abbrev pub There : (G : ℕ) → Located → (heap primary secondary : List ℕ) → Type 0
+There G (Heap q) h p s = (q .0 < length h) × (length h % G ≡ 0) × (length h ≤ 131072)
+There G (Stack q) h p s = (q .0 < length p) × (length p ≡ length s) × (length p ≤ 65536)
+There G Outside h p s = Unit {0}
 
 -- the reading there, by positions, and where the area begins from which they count
-abbrev pub readingAt : Located → (heap primary secondary : List ℕ) → Reading
-readingAt (Heap q) h p s = heapReading 4 8 (length h) (at h) (q .0)
-readingAt (Stack q) h p s = stackReading (length p) (at p) (at s) (q .0)
-readingAt Outside h p s = nothing
+abbrev pub readingAt : (W G : ℕ) → Located → (heap primary secondary : List ℕ) → Reading
+readingAt W G (Heap q) h p s = heapReading W G (length h) (at h) (q .0)
+readingAt W G (Stack q) h p s = stackReading (length p) (at p) (at s) (q .0)
+readingAt W G Outside h p s = nothing
 
 abbrev pub originOf : Map → Located → ℕ
 originOf m (Heap q) = m .«heap_start»

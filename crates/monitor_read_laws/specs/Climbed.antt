@@ -3,18 +3,15 @@
 use mathlib.Core.Path.{_≡_}
 use mathlib.Core.Bool.{cond}
 use mathlib.Core.List.{List}
-use Prim.Native.Nat.{ℕ, _+_, _*_, _/_, _≤_, _<_}
+use Prim.Native.Nat.{ℕ, _+_, _≤_, _<_}
 use lib.ListN.{length}
 use lib.Dec.{ltb}
-use Rattle.number.specs.Little.{word}
 use Rattle.number.specs.Parts.{at}
 use Rattle.map.specs.declared.Map.{Map}
+use Rattle.map.specs.FormMap.{FormMap, areas}
+use Rattle.heap_laws.specs.Climb.{FreeSegments}
 use Rattle.monitor_base.specs.declared.Located.{Located}
 use Rattle.monitor_base.specs.declared.Located.the-variants.{Heap, Stack, Outside}
-
--- the segments after that of position p, to before r, have the number 0; f the bytes
-abbrev pub FreeSegments : (size : ℕ) → (f : ℕ → ℕ) → (p r : ℕ) → Type 0
-FreeSegments size f p r = (p / 8 * 8 + 8 ≤ r) × (r ≤ size) × ((x : ℕ) → p / 8 * 8 + 8 ≤ x → x < r → word f (x / 8 * 8) 4 ≡ 0)
 
 -- the bytes after position p, to before r, are 0
 abbrev pub FreeBytes : (size : ℕ) → (f : ℕ → ℕ) → (p r : ℕ) → Type 0
@@ -28,7 +25,7 @@ startAbove m a =
     cond (ltb h s) (cond (ltb a h) h s) (cond (ltb a s) s h)
 
 -- from the address a, which lies there, to before r: the rest of a segment and free segments, bytes that are 0, or what lies outside
-abbrev pub Skips : Map → (heap primary : List ℕ) → (a : ℕ) → Located → (r : ℕ) → Type 0
-Skips m h p a (Heap q) r = (z : ℕ) × (r ≡ m .«heap_start» + z) × FreeSegments (length h) (at h) (q .0) z
+abbrev pub Skips : FormMap → (heap primary : List ℕ) → (a : ℕ) → Located → (r : ℕ) → Type 0
+Skips m h p a (Heap q) r = (z : ℕ) × (r ≡ m .«heap_start» + z) × FreeSegments (m .width) (m .segment) (length h) (at h) (q .0) z
 Skips m h p a (Stack q) r = (z : ℕ) × (r ≡ m .«stack_start» + z) × FreeBytes (length p) (at p) (q .0) z
-Skips m h p a Outside r = r ≡ startAbove m a
+Skips m h p a Outside r = r ≡ startAbove (areas m) a

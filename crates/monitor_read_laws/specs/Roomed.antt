@@ -5,7 +5,7 @@ use Rattle.plain.specs.Areas.{placeLength}
 use Rattle.plain.specs.Gaps.{Gap}
 use Rattle.plain.specs.Call.{Answer, answer, refusal}
 
--- the heap begins at `start`
-abbrev pub roomAnswer : (start l looked : ℕ) → Option Gap → Answer
-roomAnswer start l n none = refusal 14
-roomAnswer start l n (some g) = answer 0 (start + (g .start + 8)) n (g .bytes - placeLength 8 l) 0
+-- the heap begins at `start`, with segments of G
+abbrev pub roomAnswer : (G start l looked : ℕ) → Option Gap → Answer
+roomAnswer G start l n none = refusal 14
+roomAnswer G start l n (some g) = answer 0 (start + (g .start + G)) n (g .bytes - placeLength G l) 0

@@ -1,19 +1,21 @@
 // The reading of where an address lies, and what a reading says.
 ghost use mathlib.Core.Path.{_≡_};
 ghost use mathlib.Core.Bool.{cond};
+ghost use Rattle.map.specs.FormMap.{numberSize, segmentSize};
 ghost use Rattle.plain.specs.Answers.{readingOf};
 ghost use Rattle.plain.specs.ShadowCalls.{isDamaged, isFirst, inOne, lengthOf};
 ghost use Rattle.monitor_read_laws.specs.Asked.{There, readingAt};
+use map::Form;
 use monitor_base::Located;
 use plain::Reading;
 
 // By positions: in the heap, in the stack, or nothing outside both.
-pub fn reading(heap: &[u8], primary: &[u8], secondary: &[u8], l: Located) -> Reading
-    requires { ⌜ There l (now heap) (now primary) (now secondary) ⌝ }
-    ensures { λ r. ⌜ readingOf r ≡ readingAt l (now (heap .entry)) (now (primary .entry)) (now (secondary .entry)) ⌝ }
+pub fn reading(form: Form, heap: &[u8], primary: &[u8], secondary: &[u8], l: Located) -> Reading
+    requires { ⌜ There (segmentSize form) l (now heap) (now primary) (now secondary) ⌝ }
+    ensures { λ r. ⌜ readingOf r ≡ readingAt (numberSize form) (segmentSize form) l (now (heap .entry)) (now (primary .entry)) (now (secondary .entry)) ⌝ }
 {
     match l {
-        Located::Heap(p) => heap_read::read(heap, p),
+        Located::Heap(p) => heap_forms::read(form, heap, p),
         Located::Stack(p) => stack_read::read(primary, secondary, p),
         Located::Outside => Reading::Nothing,
     }

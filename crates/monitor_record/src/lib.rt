@@ -1,10 +1,12 @@
 // Records a block: the check, then the effect.
 ghost use mathlib.Core.Path.{_≡_};
+ghost use Rattle.map.specs.FormMap.{under};
 ghost use Rattle.shadows.specs.Shadows.{Shadows};
 ghost use Rattle.monitor_base.specs.Answers.{outcome};
 ghost use Rattle.monitor_base.specs.Calls.{call};
 ghost use Rattle.plain.specs.Call as plain;
 use map::Address;
+use map::Form;
 use map::Map;
 use monitor_base::Answer;
 use monitor_base::Checked;
@@ -15,6 +17,7 @@ use plain::Beginning;
 
 // The number alone: an answer in memory would cost more than the check.
 fn numbered(
+    form: Form,
     map: Map,
     heap: &mut [u8],
     primary: &mut [u8],
@@ -24,17 +27,18 @@ fn numbered(
     how: Beginning,
 ) -> u32
     ensures { λ r. ⌜ _≡_ {A = Shadows × plain.Answer} ((now (heap .exit), (now (primary .exit), now (secondary .exit))), plain.refusal r)
-        (call map (plain.begin how (base .0) len) (now (heap .entry), (now (primary .entry), now (secondary .entry)))) ⌝ }
+        (call (under form map) (plain.begin how (base .0) len) (now (heap .entry), (now (primary .entry), now (secondary .entry)))) ⌝ }
 {
-    let Checked { number, place } = check(map, heap, primary, secondary, base, len, how);
+    let Checked { number, place } = check(form, map, heap, primary, secondary, base, len, how);
     if number == 0 {
-        stamp(heap, primary, secondary, place, len, how);
+        stamp(form, heap, primary, secondary, place, len, how);
     }
     number
 }
 
 // The block joins: no byte written, every byte, or as a literal.
 pub fn begin(
+    form: Form,
     map: Map,
     heap: &mut [u8],
     primary: &mut [u8],
@@ -44,7 +48,7 @@ pub fn begin(
     how: Beginning,
 ) -> Answer
     ensures { λ r. ⌜ outcome r (now (heap .exit)) (now (primary .exit)) (now (secondary .exit))
-        ≡ call map (plain.begin how (base .0) len) (now (heap .entry), (now (primary .entry), now (secondary .entry))) ⌝ }
+        ≡ call (under form map) (plain.begin how (base .0) len) (now (heap .entry), (now (primary .entry), now (secondary .entry))) ⌝ }
 {
-    guard::refusal(numbered(map, heap, primary, secondary, base, len, how))
+    guard::refusal(numbered(form, map, heap, primary, secondary, base, len, how))
 }

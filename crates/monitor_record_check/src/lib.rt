@@ -1,10 +1,12 @@
 // The check of a record: it only reads.
 ghost use mathlib.Core.Path.{_≡_};
+ghost use Rattle.map.specs.FormMap.{segmentSize, under};
 ghost use Rattle.plain.specs.Call as plain;
 ghost use Rattle.monitor_base.specs.Locating.{Lies};
 ghost use Rattle.monitor_write_laws.specs.Checks.{numberOf, Stampable};
 use map::Address;
 use map::Area;
+use map::Form;
 use map::Map;
 use monitor_base::Checked;
 use monitor_base::Located;
@@ -16,6 +18,7 @@ use plain::Beginning;
 // The number, which depends on how the block begins in the heap alone, where no literal does; where it is 0, the block can be stamped at the
 // place.
 pub fn check(
+    form: Form,
     map: Map,
     heap: &[u8],
     primary: &[u8],
@@ -24,10 +27,10 @@ pub fn check(
     len: u32,
     how: Beginning,
 ) -> Checked
-    ensures { λ r. ⌜ (r .number ≡ numberOf map (plain.begin how (base .0) len) (now (heap .entry), (now (primary .entry), now (secondary .entry))))
-        × (r .number ≡ 0 → Lies map (base .0) (r .place) × Stampable (r .place) len (now (heap .entry), (now (primary .entry), now (secondary .entry)))) ⌝ }
+    ensures { λ r. ⌜ (r .number ≡ numberOf (under form map) (plain.begin how (base .0) len) (now (heap .entry), (now (primary .entry), now (secondary .entry))))
+        × (r .number ≡ 0 → Lies map (base .0) (r .place) × Stampable (segmentSize form) (r .place) len (now (heap .entry), (now (primary .entry), now (secondary .entry)))) ⌝ }
 {
-    let k = guard::checked(map, heap.len(), primary.len(), secondary.len());
+    let k = guard::checked(form, map, heap.len(), primary.len(), secondary.len());
     if k != 0 {
         return Checked {
             number: k,
@@ -46,7 +49,7 @@ pub fn check(
             if let Beginning::Literal = how {
                 return Checked { number: 4, place };
             }
-            let number = monitor_begin::on_heap(heap, p, end(map, Area::Heap), len);
+            let number = monitor_begin::on_heap(form, heap, p, end(map, Area::Heap), len);
             Checked { number, place }
         }
         Located::Stack(p) => {

@@ -1,12 +1,14 @@
 // The check of a remove, after that of map and lengths: it only reads.
 ghost use mathlib.Core.Path.{_≡_};
 ghost use mathlib.Core.Bool.{true};
+ghost use Rattle.map.specs.FormMap.{under};
 ghost use Rattle.map.specs.Map.{goodMap};
 ghost use Rattle.shadows.specs.Shadows.{lengthsFit};
 ghost use Rattle.plain.specs.Call as plain;
 ghost use Rattle.monitor_base.specs.Calls.{call};
 ghost use Rattle.monitor_write_laws.specs.Checks.{removedBy, Removable};
 use map::Address;
+use map::Form;
 use map::Map;
 use monitor_base::Ending;
 use monitor_base::Located;
@@ -14,11 +16,18 @@ use monitor_base::locating::locate;
 use monitor_ending::ending;
 
 // Only the first byte of a stack block is accepted.
-pub fn check(map: Map, heap: &[u8], primary: &[u8], secondary: &[u8], base: Address) -> Ending
-    requires { ⌜ (goodMap map ≡ true) × (lengthsFit map (now heap, (now primary, now secondary)) ≡ true) ⌝ }
+pub fn check(
+    form: Form,
+    map: Map,
+    heap: &[u8],
+    primary: &[u8],
+    secondary: &[u8],
+    base: Address,
+) -> Ending
+    requires { ⌜ (goodMap (under form map) ≡ true) × (lengthsFit (under form map) (now heap, (now primary, now secondary)) ≡ true) ⌝ }
     ensures { λ r. ⌜ (removedBy (now (heap .entry), (now (primary .entry), now (secondary .entry))) r
-        ≡ call map (plain.remove (base .0)) (now (heap .entry), (now (primary .entry), now (secondary .entry))))
-        × Removable map (now (heap .entry), (now (primary .entry), now (secondary .entry))) (base .0) r ⌝ }
+        ≡ call (under form map) (plain.remove (base .0)) (now (heap .entry), (now (primary .entry), now (secondary .entry))))
+        × Removable (under form map) (now (heap .entry), (now (primary .entry), now (secondary .entry))) (base .0) r ⌝ }
 {
     match locate(map, base) {
         Located::Stack(p) => ending(stack_read::read(primary, secondary, p), p),

@@ -4,7 +4,7 @@ use mathlib.Core.Bool.{Bool, true, false, cond, not}
 use mathlib.Core.Logic.{_≢_}
 use Prim.Native.Nat.{ℕ, zero, suc}
 use native.Mathlib.Omega.{arith}
-use Rattle.map.specs.declared.Map.{Map}
+use Rattle.map.specs.FormMap.{FormMap}
 use Rattle.map.specs.Map.{goodMap}
 use Rattle.plain.specs.Areas.{mapRules}
 use Rattle.plain.specs.Call.{Call, Answer, number, refusal, done, firstOf, unless}
@@ -20,7 +20,7 @@ told r = number (r .1)
 
 -- ---- the number, once it is known what the call comes to
 
-module _ (m : Map) (c : Call) (s : Shadows) where
+module _ (m : FormMap) (c : Call) (s : Shadows) where
   -- 1 or 2
   pub number-early : (k : ℕ) → k ≡ early m s → k ≢ 0 → k ≡ numberOf m c s
   number-early k e n = sym (ap told (call-early m c s k e n))
@@ -32,7 +32,7 @@ module _ (m : Map) (c : Call) (s : Shadows) where
 -- ---- what the call comes to, once its number is known
 
 -- a call that answers its number alone
-module _ (m : Map) (c : Call) (s : Shadows) (plain : shadowAnswer (mapRules m) (shadowOps m) c s ≡ done) where
+module _ (m : FormMap) (c : Call) (s : Shadows) (plain : shadowAnswer (mapRules m) (shadowOps m) c s ≡ done) where
   abbrev after : Shadows
   after = shadowsAfter (mapRules m) (shadowOps m) c s
 

@@ -8,7 +8,7 @@ use lib.ListN.{length}
 use borrow.Author.Tests.{ne-eqb}
 use Rattle.number.specs.Parts.{at}
 use Rattle.number.proofs.TestLaws.{and-false-r}
-use Rattle.map.specs.declared.Map.{Map}
+use Rattle.map.specs.FormMap.{FormMap, areas}
 use Rattle.map.specs.declared.Area.{Area}
 use Rattle.map.specs.declared.Area.the-variants as area
 use Rattle.map.specs.declared.Position.{Position}
@@ -38,9 +38,9 @@ up-length start nothing = refl
 up-length start (block b l o w t) = refl
 up-length start damaged = refl
 
-module _ (m : Map) (s : Shadows) (a : ℕ) (ok : goodMap m ≡ true) (fit : lengthsFit m s ≡ true) where
+module _ (m : FormMap) (s : Shadows) (a : ℕ) (ok : goodMap m ≡ true) (fit : lengthsFit m s ≡ true) where
   abbrev heapRead : (p : ℕ) → Reading
-  heapRead p = heapReading 4 8 (length (s .0)) (at (s .0)) p
+  heapRead p = heapReading (m .width) (m .segment) (length (s .0)) (at (s .0)) p
 
   abbrev stackRead : (p : ℕ) → Reading
   stackRead p = stackReading (length (s .1 .0)) (at (s .1 .0)) (at (s .1 .1)) p
@@ -51,27 +51,27 @@ module _ (m : Map) (s : Shadows) (a : ℕ) (ok : goodMap m ≡ true) (fit : leng
   pub null-freed : a ≡ 0 → _≡_ {A = Shadows × Answer} (s, refusal 0) (call m (free a) s)
   null-freed e = sym (call-step m (free a) s ok fit ∙ free-null (mapRules m) (shadowOps m) s a e)
 
-  pub outside-freed : a ≢ 0 → areaOf m a ≡ area.Outside → _≡_ {A = Shadows × Answer} (s, refusal 4) (call m (free a) s)
+  pub outside-freed : a ≢ 0 → areaOf (areas m) a ≡ area.Outside → _≡_ {A = Shadows × Answer} (s, refusal 4) (call m (free a) s)
   outside-freed n o = sym (call-step m (free a) s ok fit ∙ free-4 (mapRules m) (shadowOps m) s a n (out-inside m a o))
 
   -- which lies in neither area
-  no-null : (k : Area) → areaOf m a ≡ k → k ≢ area.Outside → a ≢ 0
-  no-null k e n z = n (sym e ∙ ap (areaOf m) z ∙ zero-outside m ok)
+  no-null : (k : Area) → areaOf (areas m) a ≡ k → k ≢ area.Outside → a ≢ 0
+  no-null k e n z = n (sym e ∙ ap (areaOf (areas m)) z ∙ zero-outside m ok)
 
-  pub stack-freed : (p : Position) → Lies m a (Stack p) → _≡_ {A = Shadows × Answer} (s, refusal 15) (call m (free a) s)
+  pub stack-freed : (p : Position) → Lies (areas m) a (Stack p) → _≡_ {A = Shadows × Answer} (s, refusal 15) (call m (free a) s)
   stack-freed p (e, q) =
       let i = stack-at m s ok fit a (p .0) e q in
       sym (call-step m (free a) s ok fit
       ∙ free-15 (mapRules m) (shadowOps m) s a (no-null area.Stack e (λ z. let c : _≡_ {A = ℕ} 0 1 = cc in omega arith)) (i .inside) (i .heap))
 
-  pub heap-freed : (p : Position) → Lies m a (Heap p) → freedBy s (endingOf (heapRead (p .0)) p) ≡ call m (free a) s
+  pub heap-freed : (p : Position) → Lies (areas m) a (Heap p) → freedBy (m .width) (m .segment) s (endingOf (heapRead (p .0)) p) ≡ call m (free a) s
   heap-freed p (e, q) =
       let i = heap-at m s ok fit a (p .0) e q in
       sym (call-step m (free a) s ok fit
       ∙ free-reads (mapRules m) (shadowOps m) s a (no-null area.Heap e (λ z. let c : _≡_ {A = ℕ} 0 1 = cc in omega arith)) (i .inside) (i .heap) _ (there _ _ _ _ _ _ _ _ _ i)
       ∙ ended-at _ _ _ _ _ _ _ _ _ i p refl (heapRead (p .0)))
 
-  pub freeable : (p : Position) → Lies m a (Heap p) → Freeable m s a (endingOf (heapRead (p .0)) p)
+  pub freeable : (p : Position) → Lies (areas m) a (Heap p) → Freeable m s a (endingOf (heapRead (p .0)) p)
   freeable p (e, q) = go (heapRead (p .0)) refl
     where
       go : (r : Reading) → heapRead (p .0) ≡ r → Freeable m s a (endingOf r p)
@@ -79,7 +79,7 @@ module _ (m : Map) (s : Shadows) (a : ℕ) (ok : goodMap m ≡ true) (fit : leng
       go damaged h = λ z. absurd (omega arith)
       go (block b l (suc o) w k) h = rw (ne-eqb (suc o) 0 (omega arith)) (λ z. absurd (omega arith))
       go (block b l zero w k) h =
-          let t = heap-first (length (s .0)) (at (s .0)) (p .0) b l w k h in
+          let t = heap-first (m .width) (m .segment) (length (s .0)) (at (s .0)) (p .0) b l w k h in
           let u = heap-there m s ok fit a (p .0) e q in
           let long : l ≡ blockLength m s a =
           sym (ap lengthOf (read-heap m s ok fit a (p .0) e q .0) ∙ up-length (m .«heap_start») (heapRead (p .0)) ∙ ap lengthOf h) in
@@ -87,22 +87,22 @@ module _ (m : Map) (s : Shadows) (a : ℕ) (ok : goodMap m ≡ true) (fit : leng
 
   -- ---- remove
 
-  pub outside-removed : areaOf m a ≡ area.Outside → _≡_ {A = Shadows × Answer} (s, refusal 4) (call m (remove a) s)
+  pub outside-removed : areaOf (areas m) a ≡ area.Outside → _≡_ {A = Shadows × Answer} (s, refusal 4) (call m (remove a) s)
   outside-removed o = sym (call-step m (remove a) s ok fit ∙ remove-4 (mapRules m) (shadowOps m) s a (rw (out-inside m a o)))
 
-  pub heap-removed : (p : Position) → Lies m a (Heap p) → _≡_ {A = Shadows × Answer} (s, refusal 4) (call m (remove a) s)
+  pub heap-removed : (p : Position) → Lies (areas m) a (Heap p) → _≡_ {A = Shadows × Answer} (s, refusal 4) (call m (remove a) s)
   heap-removed p (e, q) =
       let i = heap-at m s ok fit a (p .0) e q in
       sym (call-step m (remove a) s ok fit ∙ remove-4 (mapRules m) (shadowOps m) s a (rw (i .heap) (and-false-r (mapRules m .inside a) _ refl)))
 
-  pub stack-removed : (p : Position) → Lies m a (Stack p) → removedBy s (endingOf (stackRead (p .0)) p) ≡ call m (remove a) s
+  pub stack-removed : (p : Position) → Lies (areas m) a (Stack p) → removedBy s (endingOf (stackRead (p .0)) p) ≡ call m (remove a) s
   stack-removed p (e, q) =
       let i = stack-at m s ok fit a (p .0) e q in
       sym (call-step m (remove a) s ok fit
       ∙ remove-reads (mapRules m) (shadowOps m) s a (i .inside) (i .heap) _ (there _ _ _ _ _ _ _ _ _ i)
       ∙ ended-at _ _ _ _ _ _ _ _ _ i p refl (stackRead (p .0)))
 
-  pub removable : (p : Position) → Lies m a (Stack p) → Removable m s a (endingOf (stackRead (p .0)) p)
+  pub removable : (p : Position) → Lies (areas m) a (Stack p) → Removable m s a (endingOf (stackRead (p .0)) p)
   removable p (e, q) = go (stackRead (p .0)) refl
     where
       go : (r : Reading) → stackRead (p .0) ≡ r → Removable m s a (endingOf r p)

@@ -3,7 +3,7 @@ use mathlib.Core.Path.{_≡_, sym, _∙_}
 use mathlib.Core.Bool.{true}
 use mathlib.Core.Logic.{_≢_}
 use Prim.Native.Nat.{ℕ}
-use Rattle.map.specs.declared.Map.{Map}
+use Rattle.map.specs.FormMap.{FormMap}
 use Rattle.map.specs.Map.{goodMap}
 use Rattle.plain.specs.Areas.{mapRules}
 use Rattle.plain.specs.Call.{Call, refusal}
@@ -13,7 +13,7 @@ use Rattle.shadows.specs.Shadows.{Shadows, lengthsFit, shadowOps}
 use Rattle.monitor_base.specs.Calls.{call}
 use Rattle.monitor_base.proofs.CallLaws.{early, call-early, early-good, call-step}
 
-module _ (m : Map) (c : Call) (s : Shadows) (k : ℕ) (e : k ≡ early m s) (x : plain.Answer) where
+module _ (m : FormMap) (c : Call) (s : Shadows) (k : ℕ) (e : k ≡ early m s) (x : plain.Answer) where
   -- 1 or 2
   pub refused : k ≢ 0 → x ≡ refusal k → (s, x) ≡ call m c s
   refused n h = rw (h, call-early m c s k e n)

@@ -11,7 +11,7 @@ use lib.ListN.{length}
 use lib.Dec.{eqb}
 use borrow.Author.Tests.{eqb-true, eqb-false}
 use Rattle.number.proofs.TestLaws.{and-true, and-false-r}
-use Rattle.map.specs.declared.Map.{Map}
+use Rattle.map.specs.FormMap.{FormMap, areas}
 use Rattle.map.specs.declared.Area.the-variants as area
 use Rattle.map.specs.Map.{goodMap, areaOf}
 use Rattle.plain.specs.declared.Beginning.{Beginning}
@@ -84,7 +84,7 @@ heap-misfits R b l h = rw h (and-false-r (R .fits b l) false refl)
 
 -- ---- a map and its shadows
 
-module _ (m : Map) (s : Shadows) (b l : ℕ) (how : Beginning) where
+module _ (m : FormMap) (s : Shadows) (b l : ℕ) (how : Beginning) where
   abbrev asked : Call
   asked = begin how b l
 
@@ -92,30 +92,30 @@ module _ (m : Map) (s : Shadows) (b l : ℕ) (how : Beginning) where
     pub record-3 : l ≡ 0 → 3 ≡ numberOf m asked s
     record-3 e = number-step m asked s ok fit 3 (ap told (begin-3 (mapRules m) (shadowOps m) s how b l e))
 
-    pub record-4 : l ≢ 0 → areaOf m b ≡ area.Outside → 4 ≡ numberOf m asked s
+    pub record-4 : l ≢ 0 → areaOf (areas m) b ≡ area.Outside → 4 ≡ numberOf m asked s
     record-4 n o = number-step m asked s ok fit 4 (ap told (begin-4 (mapRules m) (shadowOps m) s how b l n (rw (out-fits m b l o))))
 
     -- a literal does not begin in the heap
-    pub literal-4 : l ≢ 0 → how ≡ Literal → areaOf m b ≡ area.Heap → 4 ≡ numberOf m asked s
+    pub literal-4 : l ≢ 0 → how ≡ Literal → areaOf (areas m) b ≡ area.Heap → 4 ≡ numberOf m asked s
     literal-4 n t e =
         number-step m asked s ok fit 4
-        (ap told (begin-4 (mapRules m) (shadowOps m) s how b l n (rw t (heap-misfits (mapRules m) b l (rw (area-heap m b e))))))
+        (ap told (begin-4 (mapRules m) (shadowOps m) s how b l n (rw t (heap-misfits (mapRules m) b l (rw (area-heap (areas m) b e))))))
 
     module _ (p : ℕ) where
-      heap-number : areaOf m b ≡ area.Heap → p ≡ b - m .«heap_start» → told (onHeap (begin how p l) (s .0)) ≡ numberOf m asked s
+      heap-number : areaOf (areas m) b ≡ area.Heap → p ≡ b - m .«heap_start» → told (onHeap (m .width) (m .segment) (begin how p l) (s .0)) ≡ numberOf m asked s
       heap-number e q =
-          number-step m asked s ok fit (told (onHeap (begin how p l) (s .0))) (ap told (begin-at _ _ s _ _ _ _ _ _ (heap-at m s ok fit b p e q) how l))
+          number-step m asked s ok fit (told (onHeap (m .width) (m .segment) (begin how p l) (s .0))) (ap told (begin-at _ _ s _ _ _ _ _ _ (heap-at m s ok fit b p e q) how l))
 
-      stack-number : areaOf m b ≡ area.Stack → p ≡ b - m .«stack_start» → told (onStack (begin how p l) (s .1)) ≡ numberOf m asked s
+      stack-number : areaOf (areas m) b ≡ area.Stack → p ≡ b - m .«stack_start» → told (onStack (begin how p l) (s .1)) ≡ numberOf m asked s
       stack-number e q =
           number-step m asked s ok fit (told (onStack (begin how p l) (s .1))) (ap told (begin-at _ _ s _ _ _ _ _ _ (stack-at m s ok fit b p e q) how l))
 
       -- where it may begin there, the number is that of any block
-      pub record-heap : startsLiteral how ≡ false → areaOf m b ≡ area.Heap → p ≡ b - m .«heap_start»
-          → told (onHeap (record-block p l) (s .0)) ≡ numberOf m asked s
+      pub record-heap : startsLiteral how ≡ false → areaOf (areas m) b ≡ area.Heap → p ≡ b - m .«heap_start»
+          → told (onHeap (m .width) (m .segment) (record-block p l) (s .0)) ≡ numberOf m asked s
       record-heap t e q = same-told _ _ (s .0) p l how Unwritten (rw t) ∙ heap-number e q
 
-      pub record-stack : areaOf m b ≡ area.Stack → p ≡ b - m .«stack_start» → told (onStack (record-block p l) (s .1)) ≡ numberOf m asked s
+      pub record-stack : areaOf (areas m) b ≡ area.Stack → p ≡ b - m .«stack_start» → told (onStack (record-block p l) (s .1)) ≡ numberOf m asked s
       record-stack e q = same-told _ _ (s .1) p l how Unwritten (rw (and-false-r (startsLiteral how) false refl)) ∙ stack-number e q
 
   module _ (z : numberOf m asked s ≡ 0) where
@@ -123,19 +123,19 @@ module _ (m : Map) (s : Shadows) (b l : ℕ) (how : Beginning) where
     good = number-good m asked s refl z
 
     -- no record is accepted in neither area
-    outside : areaOf m b ≡ area.Outside → ⊥
+    outside : areaOf (areas m) b ≡ area.Outside → ⊥
     outside o = go l refl
       where
         go : (k : ℕ) → l ≡ k → ⊥
         go zero e = omega (arith, record-3 (good .0) (good .1) e, z)
         go (suc k) e = omega (arith, record-4 (good .0) (good .1) (λ n. omega arith) o, z)
 
-    pub stampable : (x : Located) → Lies m b x → Stampable x l s
+    pub stampable : (x : Located) → Lies (areas m) b x → Stampable (m .segment) x l s
     stampable (Heap p) (e, q) =
         let t = begin-none _ _ (s .0) (p .0) l how (heap-number (good .0) (good .1) (p .0) e q ∙ z) in
-        let f = heap-span 8 0 (length (s .0)) (p .0) l (t .1) in
+        let f = heap-span (m .segment) 0 (length (s .0)) (p .0) l (t .1) in
         let h = heap-there m s (good .0) (good .1) b (p .0) e q in
-        ((omega arith, eqb-true (p .0 % 8) 0 (t .2), omega arith), (t .0, h .1, h .2))
+        ((omega arith, eqb-true (p .0 % m .segment) 0 (t .2), omega arith), (t .0, h .1, h .2))
     stampable (Stack p) (e, q) =
         let t = begin-none _ _ (s .1) (p .0) l how (stack-number (good .0) (good .1) (p .0) e q ∙ z) in
         let f = stack-span 0 (length (s .1 .0)) (p .0) l (t .1) in
@@ -144,10 +144,10 @@ module _ (m : Map) (s : Shadows) (b l : ℕ) (how : Beginning) where
     stampable Outside o = outside o
 
     -- what the effect leaves is what the call leaves
-    stamped-call : (x : Located) → Lies m b x → call m asked s ≡ (stampedAt x how l s, done)
+    stamped-call : (x : Located) → Lies (areas m) b x → call m asked s ≡ (stampedAt (m .width) (m .segment) x how l s, done)
     stamped-call x y = call-accepted m asked s refl z ∙ ap (λ (t : Shadows). (t, done)) (go x y)
       where
-        go : (x : Located) → Lies m b x → shadowOps m .stamp s (begun how b l) ≡ stampedAt x how l s
+        go : (x : Located) → Lies (areas m) b x → shadowOps m .stamp s (begun how b l) ≡ stampedAt (m .width) (m .segment) x how l s
         go (Heap p) (e, q) = heap-at m s (good .0) (good .1) b (p .0) e q .stamp how l
         go (Stack p) (e, q) = stack-at m s (good .0) (good .1) b (p .0) e q .stamp how l
         go Outside o = absurd (outside o)
@@ -158,5 +158,5 @@ module _ (m : Map) (s : Shadows) (b l : ℕ) (how : Beginning) where
     pub record-refused : k ≢ 0 → _≡_ {A = Shadows × Answer} (s, refusal k) (call m asked s)
     record-refused n = sym (call-refused m asked s refl k e n)
 
-    pub record-done : k ≡ 0 → (x : Located) → Lies m b x → (t : Shadows) → t ≡ stampedAt x how l s → _≡_ {A = Shadows × Answer} (t, refusal k) (call m asked s)
+    pub record-done : k ≡ 0 → (x : Located) → Lies (areas m) b x → (t : Shadows) → t ≡ stampedAt (m .width) (m .segment) x how l s → _≡_ {A = Shadows × Answer} (t, refusal k) (call m asked s)
     record-done z x y t h = rw (z, h, stamped-call (sym e ∙ z) x y)

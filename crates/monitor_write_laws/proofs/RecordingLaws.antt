@@ -18,29 +18,29 @@ use Rattle.monitor_write_laws.specs.AreaCalls.{onHeap, onStack}
 use Rattle.monitor_write_laws.proofs.StepLaws.{begin-4, begin-5, begin-6, begin-0}
 use Rattle.monitor_write_laws.proofs.CheckLaws.{told}
 
-module _ (h : List ℕ) (b l : ℕ) (some : 1 ≤ l) where
+module _ (W G : ℕ) (h : List ℕ) (b l : ℕ) (some : 1 ≤ l) where
   abbrev heapNumber : ℕ
-  heapNumber = told (onHeap (record-block b l) h)
+  heapNumber = told (onHeap W G (record-block b l) h)
 
   module _ (z : ℕ) where
-    heap-fits : 8 ≤ b → b + l ≤ z → allows (heapRules 8 0 z) Unwritten b l ≡ true
-    heap-fits x y = rw (span-heap 8 0 z b l (record { from = omega arith; to = omega arith; begins = omega arith }))
+    heap-fits : G ≤ b → b + l ≤ z → allows (heapRules G 0 z) Unwritten b l ≡ true
+    heap-fits x y = rw (span-heap G 0 z b l (record { from = omega arith; to = omega arith; begins = omega arith }))
 
-    heap-misfits : (8 ≤ b → b + l ≤ z → ⊥) → allows (heapRules 8 0 z) Unwritten b l ≡ false
-    heap-misfits n = false-of _ (λ f. let t = heap-span 8 0 z b l (and-true _ true f .0) in n (omega arith) (omega arith))
+    heap-misfits : (G ≤ b → b + l ≤ z → ⊥) → allows (heapRules G 0 z) Unwritten b l ≡ false
+    heap-misfits n = false-of _ (λ f. let t = heap-span G 0 z b l (and-true _ true f .0) in n (omega arith) (omega arith))
 
-  pub heap-4 : (8 ≤ b → b + l ≤ length h → ⊥) → 4 ≡ heapNumber
+  pub heap-4 : (G ≤ b → b + l ≤ length h → ⊥) → 4 ≡ heapNumber
   heap-4 n = sym (ap told (begin-4 _ _ h Unwritten b l (λ e. omega arith) (heap-misfits (length h) n)))
 
-  module _ (x : 8 ≤ b) (y : b + l ≤ length h) where
-    pub heap-5 : b % 8 ≢ 0 → 5 ≡ heapNumber
-    heap-5 n = sym (ap told (begin-5 _ _ h Unwritten b l (λ e. omega arith) (heap-fits (length h) x y) (ne-eqb (b % 8) 0 n)))
+  module _ (x : G ≤ b) (y : b + l ≤ length h) where
+    pub heap-5 : b % G ≢ 0 → 5 ≡ heapNumber
+    heap-5 n = sym (ap told (begin-5 _ _ h Unwritten b l (λ e. omega arith) (heap-fits (length h) x y) (ne-eqb (b % G) 0 n)))
 
-    pub heap-6 : b % 8 ≡ 0 → heapVacant 4 8 h b l ≡ false → 6 ≡ heapNumber
-    heap-6 a v = sym (ap told (begin-6 _ _ h Unwritten b l (λ e. omega arith) (heap-fits (length h) x y) (eq-eqb (b % 8) 0 a) v))
+    pub heap-6 : b % G ≡ 0 → heapVacant W G h b l ≡ false → 6 ≡ heapNumber
+    heap-6 a v = sym (ap told (begin-6 _ _ h Unwritten b l (λ e. omega arith) (heap-fits (length h) x y) (eq-eqb (b % G) 0 a) v))
 
-    pub heap-0 : b % 8 ≡ 0 → heapVacant 4 8 h b l ≡ true → 0 ≡ heapNumber
-    heap-0 a v = sym (ap told (begin-0 _ _ h Unwritten b l (λ e. omega arith) (heap-fits (length h) x y) (eq-eqb (b % 8) 0 a) v _ refl))
+    pub heap-0 : b % G ≡ 0 → heapVacant W G h b l ≡ true → 0 ≡ heapNumber
+    heap-0 a v = sym (ap told (begin-0 _ _ h Unwritten b l (λ e. omega arith) (heap-fits (length h) x y) (eq-eqb (b % G) 0 a) v _ refl))
 
 module _ (s : StackShadows) (b l : ℕ) (some : 1 ≤ l) where
   abbrev stackNumber : ℕ

@@ -6,7 +6,7 @@ use Prim.Native.Nat.{ℕ, zero, suc, _-_}
 use native.Mathlib.Omega.{arith}
 use lib.ListN.{length}
 use Rattle.number.specs.Parts.{at}
-use Rattle.map.specs.declared.Map.{Map}
+use Rattle.map.specs.FormMap.{FormMap, areas}
 use Rattle.map.specs.declared.Area.the-variants as area
 use Rattle.map.specs.Map.{goodMap, areaOf}
 use Rattle.plain.specs.Areas.{mapRules}
@@ -41,9 +41,9 @@ up-refusal start n damaged = refl
 no-mark : (n : ℕ) (r : Reading) → isLiteral r ≡ false → writtenRefusal false n r ≡ writtenRefusal true n r
 no-mark n r e = rw e
 
-module _ (m : Map) (s : Shadows) (a n : ℕ) where
+module _ (m : FormMap) (s : Shadows) (a n : ℕ) where
   abbrev heapRead : (p : ℕ) → Reading
-  heapRead p = heapReading 4 8 (length (s .0)) (at (s .0)) p
+  heapRead p = heapReading (m .width) (m .segment) (length (s .0)) (at (s .0)) p
 
   abbrev stackRead : (p : ℕ) → Reading
   stackRead p = stackReading (length (s .1 .0)) (at (s .1 .0)) (at (s .1 .1)) p
@@ -53,7 +53,7 @@ module _ (m : Map) (s : Shadows) (a n : ℕ) where
     written-number-3 e = number-step m (written a n) s ok fit 3 (ap told (written-3 (mapRules m) (shadowOps m) s a n e))
 
     module _ (some : n ≢ 0) where
-      pub written-number-4 : areaOf m a ≡ area.Outside → 4 ≡ numberOf m (written a n) s
+      pub written-number-4 : areaOf (areas m) a ≡ area.Outside → 4 ≡ numberOf m (written a n) s
       written-number-4 o = number-step m (written a n) s ok fit 4 (ap told (written-4 (mapRules m) (shadowOps m) s a n some (out-inside m a o)))
 
       -- an address of an area, by its reading
@@ -63,14 +63,14 @@ module _ (m : Map) (s : Shadows) (a n : ℕ) where
           (ap told (written-reads (mapRules m) (shadowOps m) s a i r e n some) ∙ unless-number (writtenRefusal true n r) s (markRange (shadowOps m) s a n, done) refl)
 
       module _ (p : ℕ) where
-        pub written-heap : areaOf m a ≡ area.Heap → p ≡ a - m .«heap_start» → writtenRefusal false n (heapRead p) ≡ numberOf m (written a n) s
+        pub written-heap : areaOf (areas m) a ≡ area.Heap → p ≡ a - m .«heap_start» → writtenRefusal false n (heapRead p) ≡ numberOf m (written a n) s
         written-heap e q =
             let r = read-heap m s ok fit a p e q in
-            no-mark n (heapRead p) (heap-literal (length (s .0)) (at (s .0)) p)
+            no-mark n (heapRead p) (heap-literal (m .width) (m .segment) (length (s .0)) (at (s .0)) p)
             ∙ sym (up-refusal (m .«heap_start») n (heapRead p))
             ∙ by-reading (readingUp (m .«heap_start») (heapRead p)) (r .1) (r .0)
 
-        pub written-stack : areaOf m a ≡ area.Stack → p ≡ a - m .«stack_start» → writtenRefusal true n (stackRead p) ≡ numberOf m (written a n) s
+        pub written-stack : areaOf (areas m) a ≡ area.Stack → p ≡ a - m .«stack_start» → writtenRefusal true n (stackRead p) ≡ numberOf m (written a n) s
         written-stack e q =
             let r = read-stack m s ok fit a p e q in
             sym (up-refusal (m .«stack_start») n (stackRead p)) ∙ by-reading (readingUp (m .«stack_start») (stackRead p)) (r .1) (r .0)
@@ -84,47 +84,47 @@ module _ (m : Map) (s : Shadows) (a n : ℕ) where
     some : n ≢ 0
     some e = omega (arith, written-number-3 (good .0) (good .1) e, z)
 
-    outside : areaOf m a ≡ area.Outside → ⊥
+    outside : areaOf (areas m) a ≡ area.Outside → ⊥
     outside o = omega (arith, written-number-4 (good .0) (good .1) some o, z)
 
-    in-heap : (p : ℕ) → areaOf m a ≡ area.Heap → p ≡ a - m .«heap_start» → inOne n (heapRead p) ≡ true
+    in-heap : (p : ℕ) → areaOf (areas m) a ≡ area.Heap → p ≡ a - m .«heap_start» → inOne n (heapRead p) ≡ true
     in-heap p e q = written-passed false n (heapRead p) (written-heap (good .0) (good .1) some p e q ∙ z)
 
-    in-stack : (p : ℕ) → areaOf m a ≡ area.Stack → p ≡ a - m .«stack_start» → inOne n (stackRead p) ≡ true
+    in-stack : (p : ℕ) → areaOf (areas m) a ≡ area.Stack → p ≡ a - m .«stack_start» → inOne n (stackRead p) ≡ true
     in-stack p e q = written-passed true n (stackRead p) (written-stack (good .0) (good .1) some p e q ∙ z)
 
-    markable-0 : (x : Located) → Lies m a x → Markable x n (s .0) (s .1 .0)
+    markable-0 : (x : Located) → Lies (areas m) a x → Markable (m .segment) x n (s .0) (s .1 .0)
     markable-0 (Heap p) (e, q) =
         let h = heap-there m s (good .0) (good .1) a (p .0) e q in
-        (heap-room (length (s .0)) (at (s .0)) (p .0) n (in-heap (p .0) e q), h .1, h .2)
+        (heap-room (m .width) (m .segment) (length (s .0)) (at (s .0)) (p .0) n (in-heap (p .0) e q), h .1, h .2)
     markable-0 (Stack p) (e, q) = stack-room (length (s .1 .0)) (at (s .1 .0)) (at (s .1 .1)) (p .0) n (in-stack (p .0) e q)
     markable-0 Outside o = tt
 
     -- what the effect leaves is what the call leaves
-    marked-call : (x : Located) → Lies m a x → call m (written a n) s ≡ (markedAt x n s, done)
+    marked-call : (x : Located) → Lies (areas m) a x → call m (written a n) s ≡ (markedAt (m .width) (m .segment) x n s, done)
     marked-call x y = call-accepted m (written a n) s refl z ∙ ap (λ (t : Shadows). (t, done)) (go x y)
       where
-        go : (x : Located) → Lies m a x → markRange (shadowOps m) s a n ≡ markedAt x n s
+        go : (x : Located) → Lies (areas m) a x → markRange (shadowOps m) s a n ≡ markedAt (m .width) (m .segment) x n s
         go (Heap p) (e, q) = heap-at m s (good .0) (good .1) a (p .0) e q .mark n (in-heap (p .0) e q)
         go (Stack p) (e, q) = stack-at m s (good .0) (good .1) a (p .0) e q .mark n (in-stack (p .0) e q)
         go Outside o = absurd (outside o)
 
   -- ---- what the check gave: the number, and a place that is idle where the number is not 0
 
-  pub markable : (k : ℕ) → k ≡ numberOf m (written a n) s → (x : Located) → (k ≡ 0 → Lies m a x) → Idle k x → Markable x n (s .0) (s .1 .0)
+  pub markable : (k : ℕ) → k ≡ numberOf m (written a n) s → (x : Located) → (k ≡ 0 → Lies (areas m) a x) → Idle k x → Markable (m .segment) x n (s .0) (s .1 .0)
   markable zero e x f i = markable-0 (sym e) x (f refl)
   markable (suc k) e x f i = rw (i (λ z. omega arith)) tt
 
-  pub written-call : (k : ℕ) → k ≡ numberOf m (written a n) s → (x : Located) → (k ≡ 0 → Lies m a x) → Idle k x
-      → (t : Shadows) → t ≡ markedAt x n s → _≡_ {A = Shadows × Answer} (t, refusal k) (call m (written a n) s)
+  pub written-call : (k : ℕ) → k ≡ numberOf m (written a n) s → (x : Located) → (k ≡ 0 → Lies (areas m) a x) → Idle k x
+      → (t : Shadows) → t ≡ markedAt (m .width) (m .segment) x n s → _≡_ {A = Shadows × Answer} (t, refusal k) (call m (written a n) s)
   written-call zero e x f i t h = rw (h, marked-call (sym e) x (f refl))
   written-call (suc k) e x f i t h = rw (h, i (λ z. omega arith)) (sym (call-refused m (written a n) s refl (suc k) e (λ z. omega arith)))
 
   -- an area's place x, which is what the check found where the number k is 0
-  pub area-found : (k : ℕ) → k ≡ numberOf m (written a n) s → (x : Located) → Lies m a x → (j : ℕ) → j ≡ k → (y : Located) → (k ≡ 0 → y ≡ x) → Idle k y
-      → (j ≡ numberOf m (written a n) s) × (j ≡ 0 → Lies m a y) × Idle j y × Markable y n (s .0) (s .1 .0)
+  pub area-found : (k : ℕ) → k ≡ numberOf m (written a n) s → (x : Located) → Lies (areas m) a x → (j : ℕ) → j ≡ k → (y : Located) → (k ≡ 0 → y ≡ x) → Idle k y
+      → (j ≡ numberOf m (written a n) s) × (j ≡ 0 → Lies (areas m) a y) × Idle j y × Markable (m .segment) y n (s .0) (s .1 .0)
   area-found k e x lies j q y f idle =
       let i : j ≡ numberOf m (written a n) s = q ∙ e in
-      let t : j ≡ 0 → Lies m a y = λ z. subst (λ x. Lies m a x) (sym (f (sym q ∙ z))) lies in
+      let t : j ≡ 0 → Lies (areas m) a y = λ z. subst (λ x. Lies (areas m) a x) (sym (f (sym q ∙ z))) lies in
       let o : Idle j y = λ z. idle (λ w. z (q ∙ w)) in
       (i, t, o, markable j i y t o)

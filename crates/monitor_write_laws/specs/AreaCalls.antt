@@ -15,8 +15,8 @@ abbrev pub writtenRefusal : (literals : Bool) (n : ℕ) → Reading → ℕ
 writtenRefusal t n r = firstOf ((8, isDamaged r) ∷ (7, not (inOne n r)) ∷ (13, t && isLiteral r) ∷ [])
 
 -- a record by a position, as on an area that begins at address 0
-abbrev pub onHeap : Call → List ℕ → List ℕ × Answer
-onHeap c h = shadowStep (heapRules 8 0 (length h)) (heapOps 4 8 (length h)) c h
+abbrev pub onHeap : (W G : ℕ) → Call → List ℕ → List ℕ × Answer
+onHeap W G c h = shadowStep (heapRules G 0 (length h)) (heapOps W G (length h)) c h
 
 abbrev pub onStack : Call → StackShadows → StackShadows × Answer
 onStack c s = shadowStep (stackRules 0 (length (s .0))) (stackOps (length (s .0))) c s

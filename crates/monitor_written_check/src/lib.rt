@@ -1,11 +1,13 @@
 // The check of a mark of written bytes: it only reads.
 ghost use mathlib.Core.Path.{_≡_};
+ghost use Rattle.map.specs.FormMap.{segmentSize, under};
 ghost use Rattle.plain.specs.Answers.{readingOf};
 ghost use Rattle.plain.specs.Call as plain;
 ghost use Rattle.monitor_base.specs.Locating.{Lies};
 ghost use Rattle.monitor_write_laws.specs.AreaCalls.{writtenRefusal};
 ghost use Rattle.monitor_write_laws.specs.Checks.{numberOf, Idle, Markable};
 use map::Address;
+use map::Form;
 use map::Map;
 use monitor_base::Checked;
 use monitor_base::Located;
@@ -44,13 +46,21 @@ fn in_area(number: u32, place: Located) -> Checked
 }
 
 // The number; where it is 0, the place of the first of the n bytes, else one in neither area: there is nothing to mark.
-pub fn check(map: Map, heap: &[u8], primary: &[u8], secondary: &[u8], a: Address, n: u32) -> Checked
-    ensures { λ r. ⌜ (r .number ≡ numberOf map (plain.written (a .0) n) (now (heap .entry), (now (primary .entry), now (secondary .entry))))
+pub fn check(
+    form: Form,
+    map: Map,
+    heap: &[u8],
+    primary: &[u8],
+    secondary: &[u8],
+    a: Address,
+    n: u32,
+) -> Checked
+    ensures { λ r. ⌜ (r .number ≡ numberOf (under form map) (plain.written (a .0) n) (now (heap .entry), (now (primary .entry), now (secondary .entry))))
         × (r .number ≡ 0 → Lies map (a .0) (r .place))
         × Idle (r .number) (r .place)
-        × Markable (r .place) n (now (heap .entry)) (now (primary .entry)) ⌝ }
+        × Markable (segmentSize form) (r .place) n (now (heap .entry)) (now (primary .entry)) ⌝ }
 {
-    let k = guard::checked(map, heap.len(), primary.len(), secondary.len());
+    let k = guard::checked(form, map, heap.len(), primary.len(), secondary.len());
     if k != 0 {
         return Checked {
             number: k,
@@ -65,7 +75,7 @@ pub fn check(map: Map, heap: &[u8], primary: &[u8], secondary: &[u8], a: Address
     }
     match locate(map, a) {
         Located::Heap(p) => in_area(
-            refused(heap_read::read(heap, p), n, false),
+            refused(heap_forms::read(form, heap, p), n, false),
             Located::Heap(p),
         ),
         Located::Stack(p) => {

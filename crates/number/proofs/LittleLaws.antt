@@ -1,14 +1,16 @@
 -- Laws of little-endian numbers, over the width. Assumes nothing.
-use mathlib.Core.Path.{_≡_, refl, ap}
+use mathlib.Core.Path.{_≡_, refl, sym, ap, _∙_}
 use mathlib.Core.List.{List, [], _∷_, _++_}
-use Prim.Native.Nat.{ℕ, zero, suc, _+_, _*_, _/_, _%_, _^_, _≤_, _<_, suc-le-suc}
+use Prim.Native.Nat.{ℕ, zero, suc, _+_, _-_, _*_, _/_, _%_, _^_, _≤_, _<_, suc-le-suc}
 use native.Mathlib.Omega.{arith}
-use native.Mathlib.Nat.{add-zero, add-suc, suc-add, mul-assoc, pow-suc, mul-comm, div-one, div-div-eq-div-mul}
+use native.Mathlib.Nat.{add-zero, zero-add, add-suc, suc-add, mul-assoc, pow-suc, mul-comm, div-one, div-div-eq-div-mul, one-le-pow, sub-zero}
 use lib.ListN.{length, set, take, drop}
+use lib.Arith.{mod-mul}
 use lib.Pow.{pow-add}
-use lib.Seq.{drop-cons, take-all}
+use lib.Seq.{drop-cons, take-all, ext-getD}
 use Rattle.number.specs.Little.{le, bytesOf, Bytes, byteOf, word}
-use Rattle.number.specs.Parts.{at, tab}
+use Rattle.number.specs.Parts.{at, tab, over}
+use Rattle.number.proofs.PartLaws.{length-over, over-in, over-next, over-ext}
 
 -- a number that fits w bytes comes back
 pub le-bytesOf : (w n : ℕ) → n < 256 ^ w → le (bytesOf w n) ≡ n
@@ -68,6 +70,41 @@ byteOf-shift n zero = rw (div-one n)
 byteOf-shift n (suc j) =
     let e : 8 * suc j ≡ 8 + 8 * j = omega arith in
     rw (e, pow-add 2 8 (8 * j), ← div-div-eq-div-mul) (byteOf-shift (n / 256) j)
+
+-- one byte more
+mod-next : (w n : ℕ) → n % 256 ^ suc w ≡ n / 256 % 256 ^ w * 256 + n % 256
+mod-next w n = rw (pow-suc 256 w) (mod-mul n {m = 256 ^ w} {c = 256} (one-le-pow w 256 (omega arith)) (omega arith))
+
+-- the w low bytes of a number, and those above them
+byteOf-low : (w n i : ℕ) → i < w → byteOf (n % 256 ^ w) i ≡ byteOf n i
+unfolding byteOf
+byteOf-low zero n i h = absurd (omega arith)
+byteOf-low (suc w) n zero h = omega (arith, mod-next w n)
+byteOf-low (suc w) n (suc i) h =
+    let e : n % 256 ^ suc w / 256 ≡ n / 256 % 256 ^ w = omega (arith, mod-next w n) in
+    rw e (byteOf-low w (n / 256) i (omega arith))
+
+byteOf-high : (w n i : ℕ) → byteOf (n / 256 ^ w) i ≡ byteOf n (w + i)
+unfolding byteOf
+byteOf-high zero n i = rw (zero-add i, div-one n)
+byteOf-high (suc w) n i = rw (pow-suc 256 w, mul-comm (256 ^ w) 256, ← div-div-eq-div-mul, suc-add w i) (byteOf-high w (n / 256) i)
+
+-- a number written in two parts, the m low bytes first
+pub over-bytes : (a m n v : ℕ) (h : List ℕ)
+    → over (a + m) n (λ q. byteOf (v / 256 ^ m) (q - (a + m))) (over a m (λ q. byteOf (v % 256 ^ m) (q - a)) h) ≡ over a (m + n) (λ q. byteOf v (q - a)) h
+over-bytes a m n v h =
+    ap (over (a + m) n (λ q. byteOf (v / 256 ^ m) (q - (a + m))))
+    (over-ext a m (λ q. byteOf (v % 256 ^ m) (q - a)) (λ q. byteOf v (q - a)) h (λ q x y. byteOf-low m v (q - a) (omega arith)))
+    ∙ over-next a m n (λ q. byteOf v (q - a)) (λ q. byteOf (v / 256 ^ m) (q - (a + m))) h
+    (λ q x y. let e : m + (q - (a + m)) ≡ q - a = omega arith in byteOf-high m v (q - (a + m)) ∙ rw e)
+
+-- a number written over all bytes
+pub over-all : (w v : ℕ) (h : List ℕ) → length h ≡ w → over 0 w (λ q. byteOf v (q - 0)) h ≡ bytesOf w v
+over-all w v h e =
+    ext-getD 0 (over 0 w (λ q. byteOf v (q - 0)) h) (bytesOf w v) (length-over 0 w (λ q. byteOf v (q - 0)) h ∙ e ∙ sym (length-bytesOf w v))
+    (λ q y.
+    let k : q < w = rw (length-over 0 w (λ q. byteOf v (q - 0)) h, e) at y in
+    over-in 0 w (λ q. byteOf v (q - 0)) h q (rw e k) (omega arith) (omega arith) ∙ rw (sub-zero q, at-bytesOf w v q k))
 
 -- the number at w places of a list
 pub le-word : (l : List ℕ) (w p : ℕ) → p + w ≤ length l → le (take w (drop p l)) ≡ word (at l) p w

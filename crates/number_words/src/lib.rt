@@ -76,3 +76,20 @@ pub fn put_at(s: &mut [u8], p: usize, v: u32)
 {
     put_number(&mut s[p..p + 4], v);
 }
+
+// Writes a number into eight bytes, in two halves that compile to one store.
+fn put_eight(bytes: &mut [u8], v: u64)
+    requires { ⌜ length (now bytes) ≡ 8 ⌝ }
+    ensures { λ _. ⌜ now (bytes .exit) ≡ bytesOf 8 v ⌝ }
+{
+    put_at(bytes, 0, (v % 0x100000000) as u32);
+    put_at(bytes, 4, (v / 0x100000000) as u32);
+}
+
+// Writes a number into the eight bytes at a place of a slice; every other byte stays.
+pub fn put_eight_at(s: &mut [u8], p: usize, v: u64)
+    requires { ⌜ p + 8 ≤ length (now s) ⌝ }
+    ensures { λ _. ⌜ now (s .exit) ≡ over p 8 (λ q. byteOf v (q - p)) (now (s .entry)) ⌝ }
+{
+    put_eight(&mut s[p..p + 8], v);
+}

@@ -7,6 +7,7 @@ ghost use Rattle.origins_base.specs.Answers.{lent};
 ghost use Rattle.origins_base.specs.Calls.{State, call};
 ghost use Rattle.origins_write_laws.specs.Checks.{counted};
 use map::Address;
+use map::Form;
 use map::Map;
 use monitor_base::Checked;
 use monitor_stamp::stamp;
@@ -49,7 +50,7 @@ pub fn begin(
     if number != 0 {
         return number;
     }
-    stamp(heap, primary, secondary, place, len, how);
+    stamp(Form::Player, heap, primary, secondary, place, len, how);
     set_origin(heap_cells, stack_cells, place, counter as u32);
     0
 }

@@ -5,6 +5,7 @@ ghost use Rattle.plain.specs.Call as calls;
 ghost use Rattle.origins_list.specs.Call.{plain};
 ghost use Rattle.origins_base.specs.Answers.{lent, outcomeAt};
 ghost use Rattle.origins_base.specs.Calls.{call};
+use map::Form;
 use map::Map;
 use monitor_base::Answer;
 use monitor_base::guard::refusal;
@@ -27,7 +28,7 @@ pub fn clear(
     if !cells_fit(map, heap_cells.len(), stack_cells.len()) {
         return refusal(unfit(map));
     }
-    let answer = monitor_clear::clear(map, heap, primary, secondary);
+    let answer = monitor_clear::clear(Form::Player, map, heap, primary, secondary);
     if answer.number != 0 {
         return answer;
     }

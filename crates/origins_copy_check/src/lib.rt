@@ -3,6 +3,7 @@ ghost use mathlib.Core.Path.{_≡_};
 ghost use Rattle.cells_layout.specs.Cells.{cellOps};
 ghost use Rattle.origins_laws.specs.Pointers.{copyNumber, CellLies};
 use map::Address;
+use map::Form;
 use map::Map;
 use monitor_base::Located;
 use monitor_base::locating::locate;
@@ -49,8 +50,8 @@ pub fn check(
     if let Located::Outside = source {
         return refused(4);
     }
-    let there = reading(heap, primary, secondary, place);
-    let held = reading(heap, primary, secondary, source);
+    let there = reading(Form::Player, heap, primary, secondary, place);
+    let held = reading(Form::Player, heap, primary, secondary, source);
     Aim {
         number: copy_refusal(to, from, there, held),
         place,

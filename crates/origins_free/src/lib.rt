@@ -6,6 +6,7 @@ ghost use Rattle.origins_list.specs.Call.{plain};
 ghost use Rattle.origins_base.specs.Answers.{lent, outcomeAt};
 ghost use Rattle.origins_base.specs.Calls.{call};
 use map::Address;
+use map::Form;
 use map::Map;
 use monitor_base::Answer;
 use monitor_base::Ending;
@@ -39,9 +40,9 @@ pub fn free(
     if k != 0 {
         return refusal(k);
     }
-    match check(map, heap, primary, secondary, base) {
+    match check(Form::Player, map, heap, primary, secondary, base) {
         Ending::Block(p, length) => {
-            heap_place::erase(heap, p, length);
+            heap_place::erase(Form::Player, heap, p, length);
             cells_zero::zero(heap_cells, p, length);
             refusal(0)
         }

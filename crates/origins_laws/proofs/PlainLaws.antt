@@ -3,6 +3,7 @@ use mathlib.Core.Path.{_≡_, refl, sym, ap, _∙_}
 use mathlib.Core.Bool.{true, false, cond, true≢false}
 use Prim.Native.Nat.{ℕ, zero, suc}
 use Rattle.map.specs.declared.Map.{Map}
+use Rattle.map.specs.FormMap.{player}
 use Rattle.map.specs.Map.{goodMap}
 use Rattle.plain.specs.Areas.{mapRules}
 use Rattle.plain.specs.Call as base
@@ -20,7 +21,7 @@ abbrev pub stateOf : Shadows → Cells → ℕ → State
 stateOf s y k = record { shadows = s; cells = y; counter = k }
 
 -- cells that do not fit
-pub told-unfit : (m : Map) (c : Call) (x : State) → cellsFit m (x .cells) ≡ false → (j : ℕ) → j ≡ cond (goodMap m) 2 1 → (a : Answer) → a ≡ refusal j
+pub told-unfit : (m : Map) (c : Call) (x : State) → cellsFit m (x .cells) ≡ false → (j : ℕ) → j ≡ cond (goodMap (player m)) 2 1 → (a : Answer) → a ≡ refusal j
     → (x, a) ≡ call m c x
 told-unfit m c x f j e a h = rw (h, e, call-unfit m c x f)
 
@@ -29,16 +30,16 @@ told-unfit m c x f j e a h = rw (h, e, call-unfit m c x f)
 module _ (m : Map) (s : Shadows) (y : Cells) (k : ℕ) where
   -- the cells after an accepted call
   abbrev pub cellsOf : base.Call → Cells
-  cellsOf c = cellsAfter (mapRules m) (shadowOps m) (cellOps m) (plain c) (stateOf s y k)
+  cellsOf c = cellsAfter (mapRules (player m)) (shadowOps (player m)) (cellOps m) (plain c) (stateOf s y k)
 
   abbrev first : base.Call → ℕ
-  first c = firstOf (plainForm.refusals m c s)
+  first c = firstOf (plainForm.refusals (player m) c s)
 
   abbrev after : base.Call → Shadows
-  after c = shadowsAfter (mapRules m) (shadowOps m) c s
+  after c = shadowsAfter (mapRules (player m)) (shadowOps (player m)) c s
 
   abbrev told : base.Call → Answer
-  told c = shadowAnswer (mapRules m) (shadowOps m) c s
+  told c = shadowAnswer (mapRules (player m)) (shadowOps (player m)) c s
 
   module _ (fit : cellsFit m y ≡ true) where
     -- the refusals are the plain form's, and the counter stays
@@ -64,7 +65,7 @@ module _ (m : Map) (s : Shadows) (y : Cells) (k : ℕ) where
       beside r = (stateOf (r .0) y k, r .1)
 
       -- a kind that leaves the cells does what the plain form does
-      pub call-plain : call m (plain c) (stateOf s y k) ≡ beside (plainForm.call m c s)
+      pub call-plain : call m (plain c) (stateOf s y k) ≡ beside (plainForm.call (player m) c s)
       unfolding plainForm.call
       call-plain = call-other c n ∙ rw stay (go (first c))
         where
@@ -72,5 +73,5 @@ module _ (m : Map) (s : Shadows) (y : Cells) (k : ℕ) where
           go zero = refl
           go (suc j) = refl
 
-      pub told-plain : (t : Shadows) (a : Answer) → (t, a) ≡ plainForm.call m c s → (stateOf t y k, a) ≡ call m (plain c) (stateOf s y k)
+      pub told-plain : (t : Shadows) (a : Answer) → (t, a) ≡ plainForm.call (player m) c s → (stateOf t y k, a) ≡ call m (plain c) (stateOf s y k)
       told-plain t a e = ap beside e ∙ sym call-plain

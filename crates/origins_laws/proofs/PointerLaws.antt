@@ -7,6 +7,7 @@ use native.Mathlib.Omega.{arith}
 use lib.Dec.{eqb}
 use Rattle.number.proofs.TestLaws.{Test, is-true, is-false, test}
 use Rattle.map.specs.declared.Map.{Map}
+use Rattle.map.specs.FormMap.{player}
 use Rattle.map.specs.Map.{goodMap}
 use Rattle.plain.specs.Areas.{mapRules}
 use Rattle.plain.specs.Reading.{Reading, nothing, block, damaged}
@@ -38,16 +39,16 @@ both-pointers false q = refl
 
 module _ (m : Map) (c : Call) (x : State) (k : ℕ) where
   pub number-early : k ≡ early m x → k ≢ 0 → k ≡ firstOf (refusals m c x)
-  number-early e n = go (test (goodMap m)) (test (lengthsFit m (x .shadows))) (test (cellsFit m (x .cells)))
+  number-early e n = go (test (goodMap (player m))) (test (lengthsFit (player m) (x .shadows))) (test (cellsFit m (x .cells)))
     where
-      go : Test (goodMap m) → Test (lengthsFit m (x .shadows)) → Test (cellsFit m (x .cells)) → k ≡ firstOf (refusals m c x)
+      go : Test (goodMap (player m)) → Test (lengthsFit (player m) (x .shadows)) → Test (cellsFit m (x .cells)) → k ≡ firstOf (refusals m c x)
       go (is-false g) l f = rw g (rw g at e)
       go (is-true g) (is-false l) f = rw (g, l) (rw (g, l) at e)
       go (is-true g) (is-true l) (is-false f) = rw (g, l, f) (rw (g, l, f) at e)
       go (is-true g) (is-true l) (is-true f) = absurd (n (rw (g, l, f) at e))
 
   abbrev after : State × Answer
-  after = (stateAfter (mapRules m) (shadowOps m) (cellOps m) c x, stateAnswer (mapRules m) (shadowOps m) (cellOps m) c x)
+  after = (stateAfter (mapRules (player m)) (shadowOps (player m)) (cellOps m) c x, stateAnswer (mapRules (player m)) (shadowOps (player m)) (cellOps m) c x)
 
   pub call-refused : k ≡ firstOf (refusals m c x) → k ≢ 0 → call m c x ≡ (x, refusal k)
   unfolding call
@@ -63,27 +64,27 @@ module _ (m : Map) (c : Call) (x : State) (k : ℕ) where
 
 -- ---- right map and lengths
 
-module _ (m : Map) (s : Shadows) (x : Cells) (ok : goodMap m ≡ true) (fit : lengthsFit m s ≡ true) (cells : cellsFit m x ≡ true) where
+module _ (m : Map) (s : Shadows) (x : Cells) (ok : goodMap (player m) ≡ true) (fit : lengthsFit (player m) s ≡ true) (cells : cellsFit m x ≡ true) where
   abbrev read : Located → Reading
-  read l = readingAt l (s .0) (s .1 .0) (s .1 .1)
+  read l = readingAt 4 8 l (s .0) (s .1 .0) (s .1 .1)
 
   abbrev readOf : ℕ → Reading
-  readOf a = readAny (mapRules m) (shadowOps m) s a
+  readOf a = readAny (mapRules (player m)) (shadowOps (player m)) s a
 
   -- what the readings of an address and of where it lies both tell
   read-damaged : (a : ℕ) (l : Located) → Lies m a l → isDamaged (readOf a) ≡ isDamaged (read l)
-  read-damaged a (Heap p) e = ap isDamaged (read-heap m s ok fit a (p .0) (e .0) (e .1) .0) ∙ up-damaged (m .«heap_start») (read (Heap p))
-  read-damaged a (Stack p) e = ap isDamaged (read-stack m s ok fit a (p .0) (e .0) (e .1) .0) ∙ up-damaged (m .«stack_start») (read (Stack p))
-  read-damaged a Outside e = ap isDamaged (read-out m s a e .0)
+  read-damaged a (Heap p) e = ap isDamaged (read-heap (player m) s ok fit a (p .0) (e .0) (e .1) .0) ∙ up-damaged (m .«heap_start») (read (Heap p))
+  read-damaged a (Stack p) e = ap isDamaged (read-stack (player m) s ok fit a (p .0) (e .0) (e .1) .0) ∙ up-damaged (m .«stack_start») (read (Stack p))
+  read-damaged a Outside e = ap isDamaged (read-out (player m) s a e .0)
 
   read-one : (n a : ℕ) (l : Located) → Lies m a l → inOne n (readOf a) ≡ inOne n (read l)
-  read-one n a (Heap p) e = ap (inOne n) (read-heap m s ok fit a (p .0) (e .0) (e .1) .0) ∙ up-one n (m .«heap_start») (read (Heap p))
-  read-one n a (Stack p) e = ap (inOne n) (read-stack m s ok fit a (p .0) (e .0) (e .1) .0) ∙ up-one n (m .«stack_start») (read (Stack p))
-  read-one n a Outside e = ap (inOne n) (read-out m s a e .0)
+  read-one n a (Heap p) e = ap (inOne n) (read-heap (player m) s ok fit a (p .0) (e .0) (e .1) .0) ∙ up-one n (m .«heap_start») (read (Heap p))
+  read-one n a (Stack p) e = ap (inOne n) (read-stack (player m) s ok fit a (p .0) (e .0) (e .1) .0) ∙ up-one n (m .«stack_start») (read (Stack p))
+  read-one n a Outside e = ap (inOne n) (read-out (player m) s a e .0)
 
-  inside : (a : ℕ) (l : Located) → Lies m a l → (l ≡ Outside → ⊥) → mapRules m .inside a ≡ true
-  inside a (Heap p) e n = read-heap m s ok fit a (p .0) (e .0) (e .1) .1
-  inside a (Stack p) e n = read-stack m s ok fit a (p .0) (e .0) (e .1) .1
+  inside : (a : ℕ) (l : Located) → Lies m a l → (l ≡ Outside → ⊥) → mapRules (player m) .inside a ≡ true
+  inside a (Heap p) e n = read-heap (player m) s ok fit a (p .0) (e .0) (e .1) .1
+  inside a (Stack p) e n = read-stack (player m) s ok fit a (p .0) (e .0) (e .1) .1
   inside a Outside e n = absurd (n refl)
 
   -- the base of a block that is read has a cell
@@ -116,7 +117,7 @@ module _ (m : Map) (s : Shadows) (x : Cells) (ok : goodMap m ≡ true) (fit : le
   point-number c a l k e d n r q er eq z ez = ez ∙ rw (er, eq, ok, fit, cells, inside c l e n, read-damaged c l e, read-damaged a k d, read-one 4 c l e)
 
   pub point-number-4 : (c a : ℕ) → Lies m c Outside → 4 ≡ pointNumber m s x c a
-  point-number-4 c a e = rw (ok, fit, cells, read-out m s c e .1)
+  point-number-4 c a e = rw (ok, fit, cells, read-out (player m) s c e .1)
 
   module _ (t f : ℕ) where
     pub copy-number : (l k : Located) → Lies m t l → Lies m f k → (l ≡ Outside → ⊥) → (k ≡ Outside → ⊥) → (r q : Reading) → r ≡ read l → q ≡ read k
@@ -125,10 +126,10 @@ module _ (m : Map) (s : Shadows) (x : Cells) (ok : goodMap m ≡ true) (fit : le
         ez ∙ rw (er, eq, ok, fit, cells, inside t l e n, inside f k d o, read-damaged t l e, read-damaged f k d, read-one 4 t l e, read-one 4 f k d)
 
     pub copy-number-to : Lies m t Outside → 4 ≡ copyNumber m s x t f
-    copy-number-to e = rw (ok, fit, cells, read-out m s t e .1)
+    copy-number-to e = rw (ok, fit, cells, read-out (player m) s t e .1)
 
     pub copy-number-from : (l : Located) → Lies m t l → (l ≡ Outside → ⊥) → Lies m f Outside → 4 ≡ copyNumber m s x t f
-    copy-number-from l e n d = rw (ok, fit, cells, inside t l e n, read-out m s f d .1)
+    copy-number-from l e n d = rw (ok, fit, cells, inside t l e n, read-out (player m) s f d .1)
 
 -- ---- the calls, by the number that the check gave, and the answer
 

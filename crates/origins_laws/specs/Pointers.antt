@@ -3,9 +3,9 @@ use mathlib.Core.Path.{_≡_}
 use mathlib.Core.Bool.{Bool, not, _&&_, _||_}
 use mathlib.Core.List.{List, [], _∷_}
 use Prim.Native.Nat.{ℕ, _*_, _%_, _≤_, _<_}
-use lib.Dec.{eqb}
 use lib.ListN.{length}
 use Rattle.map.specs.declared.Map.{Map}
+use Rattle.map.specs.FormMap.{player}
 use Rattle.plain.specs.Areas.{mapRules}
 use Rattle.plain.specs.Call.{firstOf}
 use Rattle.plain.specs.Reading.{Reading, nothing, block, damaged}
@@ -64,7 +64,7 @@ module _ (m : Map) (s : Shadows) (x : Cells) where
 
   -- the origin of the block that holds an address, 0 where there is none
   abbrev pub originHeld : (address : ℕ) → ℕ
-  originHeld a = originRead (cellOps m) x (readAny (mapRules m) (shadowOps m) s a)
+  originHeld a = originRead (cellOps m) x (readAny (mapRules (player m)) (shadowOps (player m)) s a)
 
   -- the cell lies there
   abbrev pub CellLies : (cell : ℕ) → Located → Type 0

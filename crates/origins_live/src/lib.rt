@@ -6,6 +6,7 @@ ghost use Rattle.origins_list.specs.Call as form;
 ghost use Rattle.origins_base.specs.Answers.{lent, outcomeAt};
 ghost use Rattle.origins_base.specs.Calls.{call};
 use map::Address;
+use map::Form;
 use map::Map;
 use monitor_base::Answer;
 use monitor_base::Located;
@@ -49,8 +50,8 @@ pub fn live(
     if let Located::Outside = place {
         return guard::refusal(4);
     }
-    let held = reading(heap, primary, secondary, place);
-    let told = reading(heap, primary, secondary, target);
+    let held = reading(Form::Player, heap, primary, secondary, place);
+    let told = reading(Form::Player, heap, primary, secondary, target);
     let number = point_refusal(cell, held, told);
     if number != 0 {
         return guard::refusal(number);

@@ -2,6 +2,7 @@
 ghost use mathlib.Core.Path.{_≡_};
 ghost use Rattle.origins_laws.specs.Pointers.{pointNumber, originHeld, CellLies};
 use map::Address;
+use map::Form;
 use map::Map;
 use monitor_base::Located;
 use monitor_base::locating::locate;
@@ -46,8 +47,8 @@ pub fn check(
     if let Located::Outside = place {
         return refused(4);
     }
-    let held = reading(heap, primary, secondary, place);
-    let told = reading(heap, primary, secondary, target);
+    let held = reading(Form::Player, heap, primary, secondary, place);
+    let told = reading(Form::Player, heap, primary, secondary, target);
     Aim {
         number: point_refusal(cell, held, told),
         place,

@@ -6,6 +6,7 @@ ghost use Rattle.origins_list.specs.Call.{plain};
 ghost use Rattle.origins_base.specs.Answers.{lent, outcomeAt};
 ghost use Rattle.origins_base.specs.Calls.{call};
 use map::Address;
+use map::Form;
 use map::Map;
 use monitor_base::Answer;
 use monitor_base::guard::refusal;
@@ -32,7 +33,17 @@ pub fn valid(
     if !cells_fit(map, heap_cells.len(), stack_cells.len()) {
         return refusal(unfit(map));
     }
-    monitor_valid::valid(map, heap, primary, secondary, a, n, from, write)
+    monitor_valid::valid(
+        Form::Player,
+        map,
+        heap,
+        primary,
+        secondary,
+        a,
+        n,
+        from,
+        write,
+    )
 }
 
 // Whether n bytes lie in one block and each is written: 1 or 0.
@@ -53,7 +64,7 @@ pub fn initialised(
     if !cells_fit(map, heap_cells.len(), stack_cells.len()) {
         return refusal(unfit(map));
     }
-    monitor_initialised::initialised(map, heap, primary, secondary, a, n)
+    monitor_initialised::initialised(Form::Player, map, heap, primary, secondary, a, n)
 }
 
 // Base and length of the first block whose base is at or above an address.
@@ -73,7 +84,7 @@ pub fn next(
     if !cells_fit(map, heap_cells.len(), stack_cells.len()) {
         return refusal(unfit(map));
     }
-    monitor_next::next(map, heap, primary, secondary, a)
+    monitor_next::next(Form::Player, map, heap, primary, secondary, a)
 }
 
 // Heap blocks, stack blocks, live bytes, written bytes.
@@ -92,5 +103,5 @@ pub fn audit(
     if !cells_fit(map, heap_cells.len(), stack_cells.len()) {
         return refusal(unfit(map));
     }
-    monitor_audit::audit(map, heap, primary, secondary)
+    monitor_audit::audit(Form::Player, map, heap, primary, secondary)
 }

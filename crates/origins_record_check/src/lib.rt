@@ -1,6 +1,7 @@
 // The check of a record in the form with origins: it only reads.
 ghost use mathlib.Core.Path.{_≡_};
 ghost use Prim.Native.Nat.{_≤_};
+ghost use Rattle.map.specs.FormMap.{player};
 ghost use Rattle.plain.specs.Call as calls;
 ghost use Rattle.monitor_base.specs.Locating.{Lies};
 ghost use Rattle.monitor_write_laws.specs.Checks as checks;
@@ -9,6 +10,7 @@ ghost use Rattle.origins_base.specs.Answers.{lent};
 ghost use Rattle.origins_laws.specs.CellsAt.{CellAt};
 ghost use Rattle.origins_write_laws.specs.Checks.{numberOf, decidedBy};
 use map::Address;
+use map::Form;
 use map::Map;
 use monitor_base::Checked;
 use origins_base::guard::cells_fit;
@@ -49,12 +51,13 @@ pub fn check(
 ) -> Checked
     ensures { λ r. ⌜ (r .number ≡ numberOf map (plain (calls.begin how (base .0) len))
         (lent (now (heap .entry)) (now (primary .entry)) (now (secondary .entry)) (now («heap_cells» .entry)) (now («stack_cells» .entry)) counter))
-        × (r .number ≡ 0 → (checks.numberOf map (calls.begin how (base .0) len) (now (heap .entry), (now (primary .entry), now (secondary .entry))) ≡ 0)
+        × (r .number ≡ 0 → (checks.numberOf (player map) (calls.begin how (base .0) len) (now (heap .entry), (now (primary .entry), now (secondary .entry))) ≡ 0)
         × Lies map (base .0) (r .place)
-        × checks.Stampable (r .place) len (now (heap .entry), (now (primary .entry), now (secondary .entry)))
+        × checks.Stampable 8 (r .place) len (now (heap .entry), (now (primary .entry), now (secondary .entry)))
         × CellAt (r .place) (now («heap_cells» .entry), now («stack_cells» .entry)) × (counter ≤ 4294967295)) ⌝ }
 {
     let Checked { number, place } = monitor_record_check::check(
+        Form::Player,
         map,
         heap,
         primary,

@@ -6,6 +6,7 @@ ghost use Rattle.origins_list.specs.Call.{plain};
 ghost use Rattle.origins_base.specs.Answers.{lent, outcomeAt};
 ghost use Rattle.origins_base.specs.Calls.{call};
 use map::Address;
+use map::Form;
 use map::Map;
 use monitor_base::Answer;
 use monitor_base::Ending;
@@ -38,7 +39,7 @@ pub fn remove(
     if k != 0 {
         return refusal(k);
     }
-    match check(map, heap, primary, secondary, base) {
+    match check(Form::Player, map, heap, primary, secondary, base) {
         Ending::Block(p, length) => {
             stack_place::erase(primary, secondary, p, length);
             cells_zero::zero(stack_cells, p, length);

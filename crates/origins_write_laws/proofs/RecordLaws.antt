@@ -2,12 +2,13 @@
 use mathlib.Core.Path.{_≡_, refl, sym, ap, _∙_}
 use mathlib.Core.Bool.{Bool, true, false, cond, not, _&&_, _||_}
 use mathlib.Core.Logic.{_≢_}
-use Prim.Native.Nat.{ℕ, suc, _+_, _≤_}
+use Prim.Native.Nat.{ℕ, suc, _≤_}
 use native.Mathlib.Omega.{arith}
 use lib.Dec.{leb, eqb}
 use borrow.Author.Tests.{leb-true, eqb-true, eqb-false, ne-eqb}
 use Rattle.number.proofs.TestLaws.{Test, is-true, is-false, test, and-true}
 use Rattle.map.specs.declared.Map.{Map}
+use Rattle.map.specs.FormMap.{player}
 use Rattle.map.specs.Map.{goodMap}
 use Rattle.plain.specs.declared.Beginning.{Beginning}
 use Rattle.plain.specs.Block.{begun}
@@ -62,7 +63,7 @@ none-of j b k = go (eqb j 0) (eqb j 6) (isCell b) (isOrigin k) refl
     go false false i o r z = absurd (eqb-false j 0 r z)
 
 -- a block can be stamped in an area only
-in-area : (x : Located) (l : ℕ) (s : Shadows) → Stampable x l s → x ≡ Outside → ⊥
+in-area : (x : Located) (l : ℕ) (s : Shadows) → Stampable 8 x l s → x ≡ Outside → ⊥
 in-area x l s t e = rw e at t
 
 module _ (m : Map) (s : Shadows) (y : Cells) (k : ℕ) (how : Beginning) (b l : ℕ) where
@@ -73,7 +74,7 @@ module _ (m : Map) (s : Shadows) (y : Cells) (k : ℕ) (how : Beginning) (b l : 
   first = firstOf (refusals m (plain (begin how b l)) state)
 
   abbrev after : State
-  after = stateOf (shadowOps m .stamp s (begun how b l)) (cellOps m .setOrigin y b k) (suc k)
+  after = stateOf (shadowOps (player m) .stamp s (begun how b l)) (cellOps m .setOrigin y b k) (suc k)
 
   is-first : call m (plain (begin how b l)) state ≡ unless first state (after, done)
   unfolding call
@@ -83,27 +84,27 @@ module _ (m : Map) (s : Shadows) (y : Cells) (k : ℕ) (how : Beginning) (b l : 
   is-number = ap told is-first ∙ unless-number first state (after, done) refl
 
   -- cells that do not fit
-  pub record-unfit : cellsFit m y ≡ false → (j : ℕ) → j ≡ cond (goodMap m) 2 1 → (j ≡ numberOf m (plain (begin how b l)) state) × (j ≢ 0)
-  record-unfit f j e = (ap told (told-unfit m (plain (begin how b l)) state f j e (refusal j) refl), go (test (goodMap m)))
+  pub record-unfit : cellsFit m y ≡ false → (j : ℕ) → j ≡ cond (goodMap (player m)) 2 1 → (j ≡ numberOf m (plain (begin how b l)) state) × (j ≢ 0)
+  record-unfit f j e = (ap told (told-unfit m (plain (begin how b l)) state f j e (refusal j) refl), go (test (goodMap (player m))))
     where
-      go : Test (goodMap m) → j ≢ 0
+      go : Test (goodMap (player m)) → j ≢ 0
       go (is-true g) z = let q : j ≡ 2 = rw g at e in omega arith
       go (is-false g) z = let q : j ≡ 1 = rw g at e in omega arith
 
-  module _ (fit : cellsFit m y ≡ true) (j : ℕ) (e : j ≡ checks.numberOf m (begin how b l) s) where
+  module _ (fit : cellsFit m y ≡ true) (j : ℕ) (e : j ≡ checks.numberOf (player m) (begin how b l) s) where
     -- the number is decided by the plain form's
     pub record-number : decidedBy j b k ≡ numberOf m (plain (begin how b l)) state
     record-number =
         sym (is-number
         ∙ rw fit
-        (tests (goodMap m) (lengthsFit m s) (eqb l 0) (allows (mapRules m) how b l) (mapRules m .aligned b) (isCell b) (shadowOps m .vacant s b l) (isOrigin k))
-        ∙ ap (λ (i : ℕ). decidedBy i b k) (sym (e ∙ call-first m (begin how b l) s refl)))
+        (tests (goodMap (player m)) (lengthsFit (player m) s) (eqb l 0) (allows (mapRules (player m)) how b l) (mapRules (player m) .aligned b) (isCell b) (shadowOps (player m) .vacant s b l) (isOrigin k))
+        ∙ ap (λ (i : ℕ). decidedBy i b k) (sym (e ∙ call-first (player m) (begin how b l) s refl)))
 
     -- where it is 0, so is the plain form's, and there is room for the origin in the cell of the base
-    pub record-ready : decidedBy j b k ≡ 0 → (j ≡ 0) × (k ≤ 4294967295) × ((x : Located) → Lies m b x → Stampable x l s → CellAt x y)
+    pub record-ready : decidedBy j b k ≡ 0 → (j ≡ 0) × (k ≤ 4294967295) × ((x : Located) → Lies m b x → Stampable 8 x l s → CellAt x y)
     record-ready z =
         let d = none-of j b k z in
-        let g = number-good m (begin how b l) s refl (sym e ∙ d .0) in (
+        let g = number-good (player m) (begin how b l) s refl (sym e ∙ d .0) in (
           d .0,
           leb-true k 4294967295 (and-true (leb 1 k) (leb k 4294967295) (d .2) .1),
           λ x lies t. cell-at m s y (g .0) (g .1) fit b x lies (in-area x l s t),
@@ -115,12 +116,12 @@ module _ (m : Map) (s : Shadows) (y : Cells) (k : ℕ) (how : Beginning) (b l : 
     pub record-refused : j ≢ 0 → _≡_ {A = State × Answer} (stateOf s y (counted j k), refusal j) (call m (plain (begin how b l)) state)
     record-refused n = sym (is-first ∙ by-number state first j (after, done) (e ∙ is-number) n ∙ rw (ne-eqb j 0 n))
 
-    pub record-accepted : j ≡ 0 → checks.numberOf m (begin how b l) s ≡ 0 → (x : Located) → Lies m b x → Stampable x l s
-        → (t : Shadows) → t ≡ stampedAt x how l s → (z : Cells) → z ≡ setOriginAt x k y
+    pub record-accepted : j ≡ 0 → checks.numberOf (player m) (begin how b l) s ≡ 0 → (x : Located) → Lies m b x → Stampable 8 x l s
+        → (t : Shadows) → t ≡ stampedAt 4 8 x how l s → (z : Cells) → z ≡ setOriginAt x k y
         → _≡_ {A = State × Answer} (stateOf t z (counted j k), refusal j) (call m (plain (begin how b l)) state)
     record-accepted i p x lies st t f z g =
-        let stamped : t ≡ shadowOps m .stamp s (begun how b l) =
-        ap (λ (r : Shadows × Answer). r .0) (record-done m s b l how 0 (sym p) refl x lies t f ∙ call-accepted m (begin how b l) s refl p) in
+        let stamped : t ≡ shadowOps (player m) .stamp s (begun how b l) =
+        ap (λ (r : Shadows × Answer). r .0) (record-done (player m) s b l how 0 (sym p) refl x lies t f ∙ call-accepted (player m) (begin how b l) s refl p) in
         let based : z ≡ cellOps m .setOrigin y b k = g ∙ sym (set-origin-at m y b x k lies (in-area x l s st)) in
         sym (is-first ∙ by-zero state first (after, done) (sym (e ∙ is-number) ∙ i) ∙ rw (stamped, based, i))
 

@@ -3,7 +3,7 @@ use mathlib.Core.Bool.{Bool, true, false, not, _&&_}
 use mathlib.Core.List.{[]}
 use Prim.Native.Nat.{ℕ, _+_, _*_, _-_, _/_, _%_}
 use lib.Dec.{leb, ltb, eqb}
-use Rattle.map.specs.declared.Map.{Map}
+use Rattle.map.specs.FormMap.{FormMap}
 use Rattle.map.specs.Map.{within}
 use Rattle.plain.specs.Block.{Block, len}
 use Rattle.plain.specs.Blocks.{any}
@@ -53,6 +53,6 @@ stackRules start size =
       gaps = λ bs. [];
     }
 
--- a heap of 8-byte segments and a stack
-abbrev pub mapRules : Map → Rules
-mapRules m = joinRules (heapRules 8 (m .«heap_start») (m .«heap_size»)) (stackRules (m .«stack_start») (m .«stack_size»))
+-- a heap of the form's segments and a stack
+abbrev pub mapRules : FormMap → Rules
+mapRules m = joinRules (heapRules (m .segment) (m .«heap_start») (m .«heap_size»)) (stackRules (m .«stack_start») (m .«stack_size»))

@@ -1,19 +1,11 @@
--- What is promised of the library and of the calls programs, every statement on one page, in the order of document 01 and of the requests.
--- `proofs/Promises.antt` proves this one type. `call m c s` is the shadows after a call and its answer, for any map m, call c and shadows s; that
--- each function of `monitor` gives what `call` says is its contract. Each name below is a statement of a few lines: those of the library stand in
--- crates/demands/specs, in the file that the group names, those of the calls programs in crates/calls_format/specs, calls_origins_format/specs
--- and calls_file/specs. Assumes nothing.
-use Rattle.demands.specs.Demand1.{RefusedAltersNothing, QuestionsAlterNothing, ByTheTable, AcceptedExactly, LowestWins, ItsRowHolds, SevenWithoutEight, EightOnlyThere, EightThere}
-use Rattle.demands.specs.Good.{GoodExactly, LengthsExactly, AreasExactly}
-use Rattle.demands.specs.Alters.{LengthsKept, ZeroExactly, RecordStamps, BytesStart, FreeZeroes, WrittenMarks}
-use Rattle.demands.specs.Told.{AnswersRead, TotalsTold, BlocksRead}
-use Rattle.demands.specs.Demand2.{AskReads, NineBytes, ImageShape, RestZero, OneImage, AuditAccepts, AuditOnly, AuditRefuses, ReadBack, MadeOf}
-use Rattle.demands.specs.Demand3.{RunsEachCall, WholeRun, NoDamage, ClearedRun, OnEveryImage, StaysPlaced}
-use Rattle.demands.specs.Begun.{AnswersOfRecord, RecordThenWritten, ListThenWritten, ListStarts}
-use Rattle.demands.specs.Null.{NullOutside, NoBlockAtNull, FreeOfNull, FreeOutside}
-use Rattle.demands.specs.Literals.{ReadExactly, WriteExactly, BitOne, AuditWants, WrittenRefused, LiteralStays, LiteralAnswers, LiteralBytes, LiteralElsewhere}
-use Rattle.demands.specs.Places.{GapsExactly, GapsCounted, WholeSegments, PlaceChooses, PlaceRefused, LargerBudget, PlacedRecorded, OnItsOwnImage}
-use Rattle.demands.specs.Removals.{FreeOfStack, RemoveElsewhere, RemoveByReading, FreeByReading, EachItsArea, FreeExactly, RemoveExactly}
+-- What is promised of the library and of the calls programs, every statement on this page and Demands.antt. `proofs/Promises.antt` proves this one
+-- type. Each name below is a statement of a few lines: those of the library stand in crates/demands/specs, in the file that the group names, those of
+-- the calls programs in crates/calls_format/specs, calls_origins_format/specs and calls_file/specs. Assumes nothing.
+use Rattle.map.specs.declared.Map.{Map}
+use Rattle.map.specs.FormMap.{FormMap, player, desk}
+use Rattle.demands.specs.Demand2.{NineBytes, SeventeenBytes}
+use Rattle.demands.specs.Desk.{DeskStores, DeskExample}
+use Rattle.demands.specs.DeskSamples.{DeskSamplesHold, DeskMapSamplesHold}
 use Rattle.demands.specs.Samples.{SamplesHold}
 use Rattle.demands.specs.LiteralSamples.{LiteralSamplesHold}
 use Rattle.demands.specs.PlaceSamples.{PlaceSamplesHold}
@@ -36,102 +28,20 @@ use Rattle.demands_calls.specs.Files.{FilesHold}
 use Rattle.calls_origins_format.specs.Running as origins-program
 use Rattle.calls_origins_format.specs.Samples as origins-taken
 use Rattle.calls_origins_format.specs.Program.{originsProgram}
+use Rattle.promises.specs.Demands.{Demands}
 
 pub record Promises : Type 0 where
-  -- ---- Demand 1: every call, on every input (Demand1.antt; the table of refusals is Numbers.antt)
+  -- ---- the three demands, and what S-1, S-2, S-5, S-6, S-7 and S-8 add (Demands.antt)
 
-  -- a refusal returns the number with all other fields zero and alters no shadow byte
-  pub refused-alters-nothing : RefusedAltersNothing
-  -- a question alters no shadow byte
-  pub questions-alter-nothing : QuestionsAlterNothing
-  -- every call leaves each shadow as long as it was (Alters.antt)
-  pub lengths-kept : LengthsKept
-  -- where they are accepted, record alters the bytes of the place alone, free zeroes them (remove: S-7 below), and written changes written bits
-  -- alone
-  pub record-stamps : RecordStamps
-  pub free-zeroes : FreeZeroes
-  pub written-marks : WrittenMarks
-  -- record: all bytes start unwritten; S-1: a block whose bytes all count as written; S-5: and bit 1 of each primary byte set
-  pub bytes-start : BytesStart
-  -- every field that an accepted call answers, out of readings, written bits and, for place, gaps, on any shadows (Told.antt)
-  pub answers-read : AnswersRead
-  -- a map that keeps the rules is good, and no other (Good.antt)
-  pub good-exactly : GoodExactly
-  -- heap shadow (heap size bytes), primary and secondary (stack size bytes each): right lengths are these
-  pub lengths-exactly : LengthsExactly
-  -- an address lies in an area exactly if it is one of the size addresses from its start on
-  pub areas-exactly : AreasExactly
-  -- what row 6 goes by: every shadow byte of the place is zero (Alters.antt)
-  pub zero-exactly : ZeroExactly
-  -- the number is that of the first row of the table that holds
-  pub by-the-table : ByTheTable
-  -- accepted, with number 0, exactly if no row holds
-  pub accepted-exactly : AcceptedExactly
-  -- the lowest number wins, but 8 before 7, and 15, where free is of a stack address, before both
-  pub lowest-wins : LowestWins
-  -- a number other than 0 is that of a row that holds
-  pub its-row-holds : ItsRowHolds
-  -- 7 never where 8 holds
-  pub seven-without-eight : SevenWithoutEight
-  -- damage is reported by number 8: nothing else is, and it always is where none of 1, 2, 3, 4 and 15 comes first
-  pub eight-only-there : EightOnlyThere
-  pub eight-there : EightThere
-  -- ---- Demand 2: readings, images, audit, the list read back (Demand2.antt)
-
-  -- readings follow the encodings, for all bytes
-  pub ask-reads : AskReads
-  -- a block that is read, on any shadows, holds the address at its offset, fits its area, has the address's written bit, and is a literal if bit 1
-  -- of the address is set (Told.antt)
-  pub blocks-read : BlocksRead
-  -- on nine bytes at most
-  pub nine-bytes : NineBytes
-  -- an image has the lengths of the areas, and bytes below 256
-  pub image-shape : ImageShape
-  -- bytes 5 to 7 of a segment, and the secondary bytes that hold no length and no offset, are zero
-  pub rest-zero : RestZero
-  -- each placeable list of blocks, written bytes and literals included, has one image, and no other list has the same
-  pub one-image : OneImage
-  -- audit accepts exactly the images, with the list's totals: it accepts each, it accepts nothing else, and what is no image gets 8
-  pub audit-accepts : AuditAccepts
-  pub audit-only : AuditOnly
-  pub audit-refuses : AuditRefuses
-  -- heap blocks, stack blocks, live bytes, written bytes: audit's totals are those of what ask answers, address by address (Told.antt)
-  pub totals-told : TotalsTold
-  -- the list read back is the list it was made of, and accepted shadows are the image of the list read back from them
-  pub read-back : ReadBack
-  pub made-of : MadeOf
-  -- on the image of every placeable list, reached by calls or not, every call answers and leaves what the list does (Demand3.antt)
-  pub on-every-image : OnEveryImage
-  -- ---- Demand 3: whole lists of calls (Demand3.antt)
-
-  -- a run is one call after another, each on what the one before left
-  pub runs-each-call : RunsEachCall
-  -- from cleared shadows, the number, every answer field and, after each call, every shadow byte are the plain list's
-  pub whole-run : WholeRun
-  -- damage is never reported
-  pub no-damage : NoDamage
-  -- clear makes shadows cleared ones, whatever they held
-  pub cleared-run : ClearedRun
-  -- the live blocks stay placed after every call
-  pub stays-placed : StaysPlaced
-  -- ---- S-1: a block whose bytes all count as written (Begun.antt)
-
-  -- its answers are those of record
-  pub answers-of-record : AnswersOfRecord
-  -- it leaves what record and then written of the whole block leave, on any shadows and on the plain list
-  pub record-then-written : RecordThenWritten
-  pub list-then-written : ListThenWritten
-  -- on the plain list, the block joins with base and length, no byte written, or every byte, and may be written or not
-  pub list-starts : ListStarts
-  -- ---- S-2: free of address 0 (Null.antt)
-
-  -- a good map keeps address 0 out of both areas, and no block is ever there
-  pub null-outside : NullOutside
-  pub no-block-at-null : NoBlockAtNull
-  -- it is accepted, after 1 and 2, and alters no byte
-  pub free-of-null : FreeOfNull
-  -- every other address outside both areas is still 4
-  pub free-outside : FreeOutside
+  -- S-8: for any number width of four bytes or more and any segment of at least twice that, under every map
+  pub every-form : (m : FormMap) → Demands m
+  -- the player: numbers of four bytes, segments of 8
+  pub player-form : (m : Map) → Demands (player m)
+  -- the desk: numbers of eight bytes, segments of 16
+  pub desk-form : (m : Map) → Demands (desk m)
+  -- readings rest on nine bytes at most, and on seventeen (Demand2.antt)
+  pub nine-bytes : (m : Map) → NineBytes m
+  pub seventeen-bytes : (m : Map) → SeventeenBytes m
   -- ---- S-4: the form with origins (crates/demands_origins/specs). Its call is on block shadows, cells and counter
 
   -- demand 1, of every call on every input: a refusal has zero fields and alters no byte of shadows and cells, and not the counter; the number is
@@ -179,54 +89,6 @@ pub record Promises : Type 0 where
   pub counter-counts : CounterCounts
   -- samples: the first counter, the bytes of a number, numbers at their edges, runs (Samples.antt)
   pub origins-samples-hold : origins-samples.SamplesHold
-  -- ---- S-5: text that may only be read (Literals.antt). Its mark is in every statement above too: of blocks, readings, images and runs
-
-  -- on every image valid_read answers 1 exactly if one block holds from and all n bytes, valid exactly if that block is no literal besides
-  pub read-exactly : ReadExactly
-  pub write-exactly : WriteExactly
-  -- a set bit 1 is damage only with code 0, and else changes a reading's mark alone, whatever the bytes
-  pub bit-one : BitOne
-  -- audit wants it equal over a block, and each byte written where it is set
-  pub audit-wants : AuditWants
-  -- written into a literal is 13, after 3 and 7, whatever the bytes; and on every image no call but clear and remove of its base ends or alters one
-  pub written-refused : WrittenRefused
-  pub literal-stays : LiteralStays
-  -- at a stack base kind 14 answers as kind 10 and leaves its bytes with 2 added to each primary byte of the block; elsewhere it is 3 or 4
-  pub literal-answers : LiteralAnswers
-  pub literal-bytes : LiteralBytes
-  pub literal-elsewhere : LiteralElsewhere
-  -- ---- S-6: a place for the next block (Places.antt). It is a call of the statements above too: the table of refusals, what is told, runs
-
-  -- the gaps by which place goes are exactly the longest runs of all-zero heap segments, in address order, and `gapsBelow` counts them, for any bytes
-  pub gaps-exactly : GapsExactly
-  pub gaps-counted : GapsCounted
-  -- the whole segments of a block
-  pub whole-segments : WholeSegments
-  -- the gap chosen fits and is looked at, none such is smaller, and none of the same size is lower; base, count and surplus are its own
-  pub place-chooses : PlaceChooses
-  -- 14 exactly if no gap looked at fits
-  pub place-refused : PlaceRefused
-  -- a larger budget is accepted too, and its surplus is no larger
-  pub larger-budget : LargerBudget
-  -- right after an accepted place, record and record_written of that base and length are accepted, for any bytes
-  pub placed-recorded : PlacedRecorded
-  -- the plain list goes by its blocks' places, which are the gaps of its own image
-  pub on-its-own-image : OnItsOwnImage
-  -- ---- S-7: only heap blocks may be freed (Removals.antt). Remove is a call of the statements above too: the table of refusals, runs, the form with
-  -- origins, its history and its cells
-
-  -- free of every stack address is 15, remove of every address outside the stack 4, whatever the bytes, and on the plain list
-  pub free-of-stack : FreeOfStack
-  pub remove-elsewhere : RemoveElsewhere
-  -- free of a heap address, and remove of a stack address, is 8 where the reading is damaged, 7 where it is not a block's first byte, else it zeroes the
-  -- shadow of that block, in the heap with its header, and alters nothing else, for any bytes
-  pub free-by-reading : FreeByReading
-  pub remove-by-reading : RemoveByReading
-  -- free alters no primary and no secondary byte, remove none of the heap, on any input
-  pub each-its-area : EachItsArea
-  -- on every image free is accepted exactly at 0 and at the base of a heap block, remove exactly at the base of a stack block
-  pub free-exactly : FreeExactly
-  pub remove-exactly : RemoveExactly
   -- ---- samples (Samples.antt, LiteralSamples.antt, PlaceSamples.antt, RemovalSamples.antt, MapSamples.antt, DamageSamples.antt, ByteSamples.antt)
 
   -- the marked samples, the worked example, edges, blocks that begin written, and numbers above 255
@@ -241,6 +103,16 @@ pub record Promises : Type 0 where
   pub map-samples-hold : MapSamplesHold
   -- each clause of "damaged if", every byte of the numbers, what each call makes of damage, and bytes that do not agree
   pub damage-samples-hold : DamageSamplesHold
+  -- ---- S-8: the desk (Desk.antt, DeskSamples.antt)
+
+  -- header and segments of a recorded block, in numbers of eight bytes and segments of 16, on any shadows
+  pub desk-stores : DeskStores
+  -- the example of source 000, on any shadows and under any map that hold it
+  pub desk-example : DeskExample
+  -- header and bits byte for byte, whole segments, 4 and 5, damage by each byte of a number, marks over both bytes of bits, every call
+  pub desk-samples-hold : DeskSamplesHold
+  -- each rule of a desk's map broken alone and at its edge
+  pub desk-map-samples-hold : DeskMapSamplesHold
   -- ---- the calls program (calls_format, Running.antt and NewMapSamples.antt; calls_file, File.antt)
 
   -- for every list of requests, maps among them: the answers, the map and every shadow byte after each are those of the plain list

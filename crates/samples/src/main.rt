@@ -1,9 +1,22 @@
 // Runs samples: writes each line of standard input again, with what the proved code answers as its right-hand side.
+use map::Form;
 use samples_input::Line;
 use samples_output::malformed;
 use samples_output::write;
 
-// A sample of the form with origins, or a line that is no sample.
+// A sample of the desk, or a line that is no sample: the desk has no calls program.
+fn answer_desk(line: &[u8]) {
+    let call = samples_text::after_word(line, 0, b"on desk:");
+    if 0 < call {
+        if !samples_plain::calls::answer(Form::Desk, line, call) {
+            malformed();
+        }
+        return;
+    }
+    malformed();
+}
+
+// A sample of the form with origins, or of the desk.
 fn answer_origins(line: &[u8]) {
     let call = samples_text::after_word(line, 0, b"on origins:");
     if 0 < call {
@@ -17,7 +30,7 @@ fn answer_origins(line: &[u8]) {
         samples_origins::runs::answer(line, records);
         return;
     }
-    malformed();
+    answer_desk(line);
 }
 
 // A sample is answered, a remark or an empty line is left alone, and any other line gets a question mark.
@@ -28,7 +41,7 @@ fn answer(line: &[u8]) {
     }
     let call = samples_text::after_word(line, 0, b"on:");
     if 0 < call {
-        if !samples_plain::calls::answer(line, call) {
+        if !samples_plain::calls::answer(Form::Player, line, call) {
             malformed();
         }
         return;

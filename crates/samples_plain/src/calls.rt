@@ -1,4 +1,4 @@
-// One call on given shadow bytes: `on: heap@8=1,0 pri@0=4 : ask 4104`.
+// One call on given shadow bytes: `on: heap@8=1,0 pri@0=4 : ask 4104`, or, on the desk, `on desk: ..`.
 ghost use mathlib.Core.Path.{_≡_};
 ghost use mathlib.Core.Bool.{false, _||_};
 ghost use lib.ListN.{replicate};
@@ -6,6 +6,7 @@ ghost use Rattle.samples_bytes.specs.Changes.{differ};
 ghost use Rattle.samples_bytes.specs.Given.{isGiven, storeAll};
 use calls_format::Decoded;
 use calls_format::Request;
+use map::Form;
 use map::Map;
 use monitor::Answer;
 use monitor::Call;
@@ -21,6 +22,7 @@ use samples_text::Place;
 
 // The call, under the map of all samples.
 fn step(
+    form: Form,
     call: PlainCall,
     heap: &mut [u8; 64],
     primary: &mut [u8; 32],
@@ -32,11 +34,12 @@ fn step(
         stack_start: 8192,
         stack_size: 32,
     };
-    monitor::step(call, map, heap, primary, secondary)
+    monitor::step(call, form, map, heap, primary, secondary)
 }
 
 // No name is the map's, so that its record does not come up.
 fn answer_request(
+    form: Form,
     request: Request,
     heap: &mut [u8; 64],
     primary: &mut [u8; 32],
@@ -46,13 +49,14 @@ fn answer_request(
         Request::NewMap(_) => malformed(),
         Request::Call(call) => write_answer(
             calls_kinds::kind_of(request),
-            step(PlainCall::Call(call), heap, primary, secondary),
+            step(form, PlainCall::Call(call), heap, primary, secondary),
         ),
     }
 }
 
 // A call that has a record.
 fn answer_named(
+    form: Form,
     line: &[u8],
     at: usize,
     heap: &mut [u8; 64],
@@ -68,11 +72,12 @@ fn answer_named(
         malformed();
         return;
     };
-    answer_request(request, heap, primary, secondary);
+    answer_request(form, request, heap, primary, secondary);
 }
 
 // Clear has no record of its own, and no number.
 fn answer_clear(
+    form: Form,
     line: &[u8],
     at: usize,
     heap: &mut [u8; 64],
@@ -81,7 +86,10 @@ fn answer_clear(
 ) {
     if samples_text::at_end(line, at) {
         let clear = Call::Update(Update::Clear);
-        write_answer(0, step(PlainCall::Call(clear), heap, primary, secondary));
+        write_answer(
+            0,
+            step(form, PlainCall::Call(clear), heap, primary, secondary),
+        );
     } else {
         malformed();
     }
@@ -94,6 +102,7 @@ fn next_number(line: &[u8], at: usize) -> Number {
 
 // Place has no record either: a length and a budget end its line.
 fn answer_place(
+    form: Form,
     line: &[u8],
     at: usize,
     heap: &mut [u8; 64],
@@ -109,13 +118,20 @@ fn answer_place(
         return;
     };
     if samples_text::at_end(line, end) {
-        write_room(step(PlainCall::Place(length, budget), heap, primary, secondary));
+        write_room(step(
+            form,
+            PlainCall::Place(length, budget),
+            heap,
+            primary,
+            secondary,
+        ));
     } else {
         malformed();
     }
 }
 
 fn answer_call(
+    form: Form,
     line: &[u8],
     at: usize,
     heap: &mut [u8; 64],
@@ -125,15 +141,15 @@ fn answer_call(
     let start = samples_text::skip_spaces(line, at);
     let clear = samples_text::after_name(line, start, b"clear");
     if start != clear {
-        answer_clear(line, clear, heap, primary, secondary);
+        answer_clear(form, line, clear, heap, primary, secondary);
         return;
     }
     let place = samples_text::after_name(line, start, b"place");
     if start != place {
-        answer_place(line, place, heap, primary, secondary);
+        answer_place(form, line, place, heap, primary, secondary);
         return;
     }
-    answer_named(line, start, heap, primary, secondary);
+    answer_named(form, line, start, heap, primary, secondary);
 }
 
 fn heap_change(old: &[u8; 64], new: &[u8; 64]) -> bool
@@ -150,7 +166,7 @@ fn stack_change(name: &[u8], old: &[u8; 32], new: &[u8; 32], told: bool) -> bool
 
 // The answer, and each shadow that the call changed, or a question mark where the call is malformed.
 // Nothing, and false, where the given bytes are.
-pub fn answer(line: &[u8], at: usize) -> bool
+pub fn answer(form: Form, line: &[u8], at: usize) -> bool
     ensures { λ r. ⌜ r ≡ isGiven (storeAll 4096 (now (line .entry)) at (replicate 64 0) (replicate 32 0) (replicate 32 0)) ⌝ }
 {
     let mut heap = [0u8; 64];
@@ -168,7 +184,7 @@ pub fn answer(line: &[u8], at: usize) -> bool
     let heap_was = heap;
     let primary_was = primary;
     let secondary_was = secondary;
-    answer_call(line, colon, &mut heap, &mut primary, &mut secondary);
+    answer_call(form, line, colon, &mut heap, &mut primary, &mut secondary);
     let in_heap = heap_change(&heap_was, &heap);
     let in_primary = stack_change(b" pri@", &primary_was, &primary, in_heap);
     stack_change(b" sec@", &secondary_was, &secondary, in_primary);

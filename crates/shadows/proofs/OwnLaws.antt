@@ -7,7 +7,7 @@ use Prim.Native.Nat.{ℕ, _+_, _-_, _≤_, _<_}
 use native.Mathlib.Omega.{arith}
 use Rattle.number.specs.Parts.{at}
 use Rattle.number.proofs.PartLaws.{at-tab}
-use Rattle.map.specs.declared.Map.{Map}
+use Rattle.map.specs.FormMap.{FormMap}
 use Rattle.map.specs.Map.{goodMap}
 use Rattle.plain.specs.Block.{Block, len}
 use Rattle.plain.specs.Blocks.{Has}
@@ -24,7 +24,7 @@ use Rattle.stack_layout.proofs.ImageLaws.{covers, in-foot}
 use Rattle.shadows.specs.Shadows.{image}
 use Rattle.shadows.proofs.ShadowLaws.{stack-placed}
 
-module _ (m : Map) (ok : goodMap m ≡ true) (bs : List Block) (P : Placed (mapRules m) 0 bs) (b : Block) (h : Has b bs)
+module _ (m : FormMap) (ok : goodMap m ≡ true) (bs : List Block) (P : Placed (mapRules m) 0 bs) (b : Block) (h : Has b bs)
     (i : stackRules (m .«stack_start») (m .«stack_size») .inside (b .base) ≡ true) (q : ℕ) (x : b .base - m .«stack_start» ≤ q)
     (y : q < b .base - m .«stack_start» + len b) where
   abbrev d : Block

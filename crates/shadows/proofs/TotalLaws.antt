@@ -4,7 +4,7 @@ use mathlib.Core.Bool.{true}
 use mathlib.Core.Option.{some}
 use Prim.Native.Nat.{ℕ, _≤_}
 use native.Mathlib.Omega.{arith}
-use Rattle.map.specs.declared.Map.{Map}
+use Rattle.map.specs.FormMap.{FormMap}
 use Rattle.map.specs.Map.{goodMap}
 use Rattle.map.proofs.MapLaws.{good-true}
 use Rattle.plain.specs.Areas.{mapRules}
@@ -15,7 +15,7 @@ use Rattle.shadows.specs.Shadows.{Shadows, lengthsFit, shadowOps}
 use Rattle.shadows.proofs.ShadowLaws.{fit-true, map-sound, shadow-images, shadow-scanned}
 
 -- accepted shadows are the image of a placed list, whose totals are bounded
-pub audit-small : (m : Map) (s : Shadows) → goodMap m ≡ true → lengthsFit m s ≡ true → (h k l w : ℕ) → shadowOps m .audit s ≡ some (tally h k l w)
+pub audit-small : (m : FormMap) (s : Shadows) → goodMap m ≡ true → lengthsFit m s ≡ true → (h k l w : ℕ) → shadowOps m .audit s ≡ some (tally h k l w)
     → (l ≤ 4294967295) × (w ≤ 4294967295)
 audit-small m s ok fit h k l w e =
     let g = good-true m ok in

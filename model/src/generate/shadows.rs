@@ -2,6 +2,7 @@
 
 use crate::block::{Beginning, Block};
 use crate::call::Call;
+use crate::form::Form;
 use crate::generate::{call, ending_anywhere, inside, places};
 use crate::image::{image, Shadows};
 use crate::map::Map;
@@ -27,7 +28,7 @@ pub fn damaged(random: &mut Random, map: Map, changes: u64) -> Shadows {
     for _ in 0..changes {
         match marks_alone {
             true => change_low_bits(random, &mut shadows.primary),
-            false => change(random, &mut shadows),
+            false => change(random, map.form, &mut shadows),
         }
     }
     shadows
@@ -44,7 +45,7 @@ pub fn any(random: &mut Random, map: Map) -> (Shadows, Call) {
     };
     let blocks = read_blocks(map, &shadows);
     let call = match random.below(13) {
-        0 => places::place_on(random, &shadows.heap),
+        0 => places::place_on(random, map.form, &shadows.heap),
         1 => ending_anywhere(random, map),
         2..=7 if !blocks.is_empty() => inside(random, &blocks),
         _ => call(random, map, &blocks),
@@ -85,7 +86,25 @@ pub fn noise(random: &mut Random, map: Map) -> Shadows {
             *byte = telling_byte(random);
         }
     }
+    lower_numbers(random, map.form, &mut shadows.heap);
     shadows
+}
+
+/// A number of more than four noisy bytes would hardly ever be low enough for a
+/// block, so that most lose the bytes above.
+fn lower_numbers(random: &mut Random, form: Form, heap: &mut [u8]) {
+    for number in wide_numbers(form, heap) {
+        if !random.once_in(8) {
+            number[4..].fill(0);
+        }
+    }
+}
+
+/// What stands in the place of a number, where numbers have more than four bytes.
+fn wide_numbers(form: Form, heap: &mut [u8]) -> impl Iterator<Item = &mut [u8]> {
+    let segments = heap.chunks_mut(form.bytes());
+    let places = segments.flat_map(move |segment| segment.chunks_exact_mut(form.width));
+    places.filter(|number| number.len() > 4)
 }
 
 fn bytes(shadows: &mut Shadows) -> impl Iterator<Item = &mut u8> {
@@ -103,16 +122,19 @@ fn telling_byte(random: &mut Random) -> u8 {
     }
 }
 
-/// One change: a bit, a byte, a whole four-byte number, or the low bits of some
-/// primary bytes.
-pub(crate) fn change(random: &mut Random, shadows: &mut Shadows) {
+/// One change: a bit, a byte, a four-byte number, which may be the upper half of
+/// a wider one, or the low bits of some primary bytes.
+pub(crate) fn change(random: &mut Random, form: Form, shadows: &mut Shadows) {
+    if form.width > 4 && random.once_in(6) {
+        return raise_number(random, form, &mut shadows.heap);
+    }
     if random.once_in(5) {
         return change_low_bits(random, &mut shadows.primary);
     }
-    let shadow = match random.below(3) {
-        0 => &mut shadows.heap,
-        1 => &mut shadows.primary,
-        _ => &mut shadows.secondary,
+    let (unit, shadow) = match random.below(3) {
+        0 => (form.segment, &mut shadows.heap),
+        1 => (8, &mut shadows.primary),
+        _ => (8, &mut shadows.secondary),
     };
     let position = random.below(shadow.len() as u64) as usize;
     match random.below(4) {
@@ -125,15 +147,29 @@ pub(crate) fn change(random: &mut Random, shadows: &mut Shadows) {
             }
         }
         2 => {
-            let step = random.pick(&[1, 4, 8, 252, 248]);
+            let unit = unit as u8;
+            let step = random.pick(&[1, 4, unit, 252, unit.wrapping_neg()]);
             shadow[position] = shadow[position].wrapping_add(step);
         }
         _ => {
-            let number = telling_number(random, shadow.len() as u32);
+            let number = telling_number(random, unit, shadow.len() as u32);
             let at = position - position % 4;
             shadow[at..at + 4].copy_from_slice(&number.to_le_bytes());
         }
     }
+}
+
+/// A wide number that was right, made higher by a multiple of 2 to the 32.
+fn raise_number(random: &mut Random, form: Form, heap: &mut [u8]) {
+    let not_zero = |number: &&mut [u8]| number.iter().any(|&byte| byte != 0);
+    let mut numbers: Vec<&mut [u8]> = wide_numbers(form, heap).filter(not_zero).collect();
+    if numbers.is_empty() {
+        return;
+    }
+    let chosen = random.below(numbers.len() as u64) as usize;
+    let any = 1 + random.below(255) as u8;
+    let upper = &mut numbers[chosen][4..];
+    upper[random.below(upper.len() as u64) as usize] = random.pick(&[1, 1, 128, any]);
 }
 
 /// Bit 1 or the written bit of a byte or of a few in a row: marks that are mixed
@@ -159,11 +195,13 @@ fn change_low_bits(random: &mut Random, primary: &mut [u8]) {
     }
 }
 
-fn telling_number(random: &mut Random, size: u32) -> u32 {
+/// A number that a segment or piece of so many bytes could hold, or nearly.
+fn telling_number(random: &mut Random, unit: u32, size: u32) -> u32 {
+    let below = unit.wrapping_neg();
     match random.below(4) {
         0 => random.between(0, 33),
-        1 => 8 * random.between(0, size / 8) + random.between(0, 1),
-        2 => random.pick(&[size, size - 8, size + 1, size - 7]),
-        _ => random.pick(&[0, u32::MAX, 4_294_967_288, 4_294_967_289, 1 << 31]),
+        1 => unit * random.between(0, size / unit) + random.between(0, 1),
+        2 => random.pick(&[size, size - unit, size + 1, size - unit + 1]),
+        _ => random.pick(&[0, u32::MAX, below, below + 1, 1 << 31]),
     }
 }

@@ -36,7 +36,7 @@ impl Calls {
     fn draw(&self, random: &mut Random, map: Map, blocks: &[Block]) -> OriginsCall {
         match random.below(100) {
             0..=39 => {
-                let call = generate::call_of_both_forms(random, map, blocks);
+                let call = generate::call_but_place(random, map, blocks);
                 OriginsCall::Plain(aligned(random, call))
             }
             40..=49 => OriginsCall::Plain(self.again(random, map, blocks)),

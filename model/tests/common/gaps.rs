@@ -2,6 +2,7 @@
 
 use super::on;
 use model::call::{refusal, Answer, Call, Outcome};
+use model::form::Form;
 use model::image::Shadows;
 use model::map::Map;
 
@@ -9,8 +10,9 @@ use model::map::Map;
 pub type Gap = (usize, usize);
 
 /// Every run of zero segments that no zero segment adjoins, by trying them all.
-pub fn gaps(heap: &[u8]) -> Vec<Gap> {
-    let zero: Vec<bool> = heap.chunks(8).map(|segment| segment == [0; 8]).collect();
+pub fn gaps(form: Form, heap: &[u8]) -> Vec<Gap> {
+    let segments = heap.chunks(form.bytes());
+    let zero: Vec<bool> = segments.map(|s| s.iter().max() == Some(&0)).collect();
     let end = zero.len();
     let mut found = Vec::new();
     for i in 0..end {
@@ -31,16 +33,17 @@ pub fn defined(map: Map, heap: &[u8], length: u32, budget: u32) -> Answer {
         if length == 0 {
             return Err(refusal::ZERO);
         }
-        let mut looked_at = gaps(heap);
+        let g = map.form.segment;
+        let mut looked_at = gaps(map.form, heap);
         looked_at.truncate(budget as usize);
-        let segments = u64::from(length / 8) + u64::from(!length.is_multiple_of(8));
+        let segments = u64::from(length / g) + u64::from(!length.is_multiple_of(g));
         let fits = |gap: &&Gap| gap.1 as u64 > segments;
         let fitting: Vec<&Gap> = looked_at.iter().filter(fits).collect();
         let no_worse = |a: &Gap, b: &Gap| a.1 < b.1 || (a.1 == b.1 && a.0 <= b.0);
         let chosen = |a: &&&Gap| fitting.iter().all(|b| no_worse(a, b));
         let gap = fitting.iter().find(chosen).ok_or(refusal::NO_GAP)?;
-        let base = map.heap_start + 8 * gap.0 as u32 + 8;
-        let surplus = 8 * (gap.1 as u32 - 1 - segments as u32);
+        let base = map.heap_start + g * gap.0 as u32 + g;
+        let surplus = g * (gap.1 as u32 - 1 - segments as u32);
         Ok([base, looked_at.len() as u32, surplus, 0])
     };
     outcome().into()

@@ -1,13 +1,20 @@
 //! Maps and bytes to call on, right and wrong ones.
 
+use model::form::FORMS;
 use model::generate::{self, shadows, Scale};
 use model::image::Shadows;
 use model::map::Map;
 use model::random::Random;
 
-/// A good map and bytes of any kind: an image, a damaged one, or noise.
+/// A good map of either form.
+pub fn any_map(random: &mut Random) -> Map {
+    let form = random.pick(&FORMS);
+    generate::map_of(form, random, Scale::Crowded)
+}
+
+/// The same, and bytes of any kind: an image, a damaged one, or noise.
 pub fn any_state(random: &mut Random) -> (Map, Shadows) {
-    let map = generate::map(random, Scale::Crowded);
+    let map = any_map(random);
     let changes = random.below(6);
     let bytes = match random.below(3) {
         0 => shadows::noise(random, map),
@@ -33,7 +40,7 @@ pub fn outside(random: &mut Random, map: Map) -> impl Iterator<Item = u32> {
 pub fn any_lent(random: &mut Random) -> (Map, Shadows, u32) {
     let (good, mut lent) = any_state(random);
     let map = match random.once_in(2) {
-        true => generate::edge_map(random),
+        true => generate::edge_map_of(good.form, random),
         false => good,
     };
     if random.once_in(2) {

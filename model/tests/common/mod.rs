@@ -12,7 +12,7 @@ use model::bytes;
 use model::call::{Answer, Call};
 use model::image::Shadows;
 use model::map::Map;
-use model::notation::{examples, Example, OneCall, EXAMPLE_MAP};
+use model::notation::{examples, Example, OneCall};
 use model::reading::View;
 
 /// A file of tests/data.
@@ -99,7 +99,7 @@ pub fn addresses(map: Map) -> impl Iterator<Item = u32> {
 /// where none is due.
 pub fn on_bytes(line: &str, example: &OneCall) {
     let mut shadows = example.shadows.clone();
-    let answer = on(EXAMPLE_MAP, &mut shadows, example.call);
+    let answer = on(example.map, &mut shadows, example.call);
     assert_eq!(answer, example.answer, "{line}: {:?}", example.call);
     if answer.number != 0 || example.call.alters_nothing() {
         assert_eq!(shadows, example.shadows, "{line}: bytes changed");

@@ -54,13 +54,13 @@ returns c =
     let e = c .before .before .before .before .before .before in
     let a = e .before .before .before .before .before .before .before .before .args in
     let z = e .before .before .before .before .sizes-of .ensures in
-    on-parts (a .map) _ _ (now (a .heap)) (now (a .primary)) (now (a .secondary)) (e .call-step .last .1 .1 .0) (e .call-step .last .1 .1 .1 .0) (e .call-step .last .1 .1 .1 .1 .0) _ _ _
+    on-parts (a .map) _ _ (now (a .heap)) (now (a .primary)) (now (a .secondary)) (e .call-step .last .1 .1 .1 .0) (e .call-step .last .1 .1 .1 .1 .0) (e .call-step .last .1 .1 .1 .1 .1 .0) _ _ _
     (sub-zero _ ∙ z .0)
     (sub-zero _ ∙ z .1)
     (sub-zero _ ∙ z .2)
-    (e .call-step .kept .1 .1 .0)
     (e .call-step .kept .1 .1 .1 .0)
     (e .call-step .kept .1 .1 .1 .1 .0)
+    (e .call-step .kept .1 .1 .1 .1 .1 .0)
     (e .call-step .ensures)
 
 pub call-on-spec : {M : Type 1} → statement M

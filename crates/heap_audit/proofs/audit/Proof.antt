@@ -6,21 +6,21 @@ use denote.Ref.{now}
 use lib.ListN.{length}
 use borrow.Author.Needs.{needs}
 use Rattle.heap_layout.specs.Ops.{heapOps}
-use Rattle.heap_audit.specs.declared.walk.Moved.the-variants.{On, NoImage}
-use Rattle.heap_audit.specs.Turn.{rest, Kept}
-use Rattle.heap_audit.proofs.TurnLaws.{rest-start, rest-end, turned}
+use Rattle.heap_audit_laws.specs.declared.Moved.the-variants.{On, NoImage}
+use Rattle.heap_audit_laws.specs.Turn.{rest, Kept}
+use Rattle.heap_audit_laws.proofs.TurnLaws.{rest-start, rest-end, turned}
 use Rattle.heap_audit.proofs.audit.Statement.{statement}
 use Rattle.heap_audit.proofs.audit.Tie as tie
 
 abbrev Inv-loop : tie.InvT-loop
 Inv-loop heap segments w₀ s₀ w s =
-    (s ≤ length heap / 8) × Kept (length heap) s w × (heapOps 4 8 (length heap) .audit heap ≡ rest heap s w)
+    (s ≤ length heap / 8) × Kept 8 (length heap) s w × (heapOps 4 8 (length heap) .audit heap ≡ rest 4 8 heap s w)
 
 abbrev μ-loop : tie.MeasureT-loop
 μ-loop heap segments w₀ s₀ w s = length heap / 8 - s
 
 loop-holds : tie.Need-loop-holds Inv-loop μ-loop
-loop-holds c = (search needs, omega arith, rest-start (now (c .before .args .heap)))
+loop-holds c = (search needs, omega arith, rest-start 4 8 (now (c .before .args .heap)))
 
 turn-requires : tie.Need-turn-requires Inv-loop μ-loop
 turn-requires c κs = search needs
@@ -34,7 +34,7 @@ enum-told c = search needs
 returns : tie.Need-returns Inv-loop μ-loop
 returns c =
     let l = c .before .before .before .before .loop in
-    sym (l .inv .2 ∙ turned (now (c .before .before .before .before .before .before .args .heap)) (l .s) (l .w) _ NoImage (c .before .before .turn .ensures) (c .enum-told .given .1))
+    sym (l .inv .2 ∙ turned 4 8 (now (c .before .before .before .before .before .before .args .heap)) (l .s) (l .w) _ NoImage (c .before .before .turn .ensures) (c .enum-told .given .1))
 
 add-s : tie.Need-add-s Inv-loop μ-loop
 add-s c = search needs
@@ -45,14 +45,14 @@ loop-less c = search needs
 loop-again : tie.Need-loop-again Inv-loop μ-loop
 loop-again c =
     let l = c .before .before .before .before .before .loop in
-    let t = turned (now (c .before .before .before .before .before .before .before .args .heap)) (l .s) (l .w) _ (On (c .before .v .given .0 .0))
+    let t = turned 4 8 (now (c .before .before .before .before .before .before .before .args .heap)) (l .s) (l .w) _ (On (c .before .v .given .0 .0))
     (c .before .before .before .turn .ensures) (c .before .v .given .1) in
     (search needs, t .1, l .inv .2 ∙ t .0)
 
 returns-2 : tie.Need-returns-2 Inv-loop μ-loop
 returns-2 c =
     let l = c .before .loop in
-    sym (l .inv .2 ∙ rest-end (now (c .before .before .before .args .heap)) (l .s) (l .w) (omega arith) (l .inv .1))
+    sym (l .inv .2 ∙ rest-end 4 8 (now (c .before .before .before .args .heap)) (l .s) (l .w) (omega arith) (l .inv .1))
 
 pub audit-spec : {M : Type 1} → statement M
 audit-spec =

@@ -7,19 +7,20 @@ use lib.ListN.{length}
 use borrow.Author.Needs.{needs}
 use Rattle.heap_gap.specs.declared.Scan.{Scan}
 use Rattle.heap_gap.specs.Scans.{choiceOf}
-use Rattle.heap_gaps.specs.Pass.{Kept, choice}
-use Rattle.heap_gaps.proofs.RestLaws.{kept-start, kept-full, kept-next, kept-last}
+use Rattle.heap_gap_laws.specs.Pass.{Kept, choice}
+use Rattle.heap_gap_laws.proofs.RestLaws.{word-tells}
+use Rattle.heap_gap_laws.proofs.KeptLaws.{kept-start, kept-full, kept-next, kept-last}
 use Rattle.heap_gaps.proofs.choose.Statement.{statement}
 use Rattle.heap_gaps.proofs.choose.Tie as tie
 
 abbrev Inv-loop : tie.InvT-loop
-Inv-loop heap len budget need g₀ p₀ g p = Kept heap need budget g p
+Inv-loop heap len budget need g₀ p₀ g p = Kept 4 8 heap need budget g p
 
 abbrev μ-loop : tie.MeasureT-loop
 μ-loop heap len budget need g₀ p₀ g p = length heap - p
 
 abbrev Inv-loop2 : tie.InvT-loop2
-Inv-loop2 heap len budget need g₀ p₀ g p = Kept heap need budget g p
+Inv-loop2 heap len budget need g₀ p₀ g p = Kept 4 8 heap need budget g p
 
 abbrev μ-loop2 : tie.MeasureT-loop2
 μ-loop2 heap len budget need g₀ p₀ g p = length heap - p
@@ -28,7 +29,7 @@ needed-requires : tie.Need-needed-requires Inv-loop μ-loop Inv-loop2 μ-loop2
 needed-requires c κs = search needs
 
 loop-holds : tie.Need-loop-holds Inv-loop μ-loop Inv-loop2 μ-loop2
-loop-holds c = kept-start _ _ _
+loop-holds c = kept-start _ _ _ (omega arith)
 
 add-loop : tie.Need-add-loop Inv-loop μ-loop Inv-loop2 μ-loop2
 add-loop c = search needs
@@ -39,7 +40,7 @@ returns c =
     let a = m .before .before .before .args in
     let k = m .loop .inv in (
       kept-full (now (a .heap)) (m .before .needed .result) (a .budget) (m .loop .g) (m .loop .p) k (c .if1 .taken)
-          ∙ ap (λ (n : ℕ). choice n (a .budget) (now (a .heap))) (m .before .needed .ensures),
+          ∙ ap (λ (n : ℕ). choice 4 8 n (a .budget) (now (a .heap))) (m .before .needed .ensures),
       omega (arith, k .before, k .inside),
     )
 
@@ -79,7 +80,7 @@ loop2-again c =
     let m = c .before .before .before in
     let a = c .before .before .before .before .before .before .before .before .args in
     kept-next (now (a .heap)) (c .before .before .before .before .before .before .needed .result) (a .budget) (m .loop2 .g) (c .turn .result) (m .loop2 .p) (m .loop2 .p + 8) _
-    (m .loop2 .inv) refl (omega arith) (c .before .eight-at .ensures) (c .turn .ensures)
+    (m .loop2 .inv) refl (omega arith) (word-tells (c .before .eight-at .ensures)) (c .turn .ensures)
 
 ended-requires : tie.Need-ended-requires Inv-loop μ-loop Inv-loop2 μ-loop2
 ended-requires c κs = let k = c .before .loop2 .inv in record { within = k .within; most = k .most }
@@ -90,7 +91,7 @@ returns-2 c =
     let a = c .before .before .before .before .before .before .before .args in
     let n = c .before .before .before .before .before .needed in
     let l = kept-last (now (a .heap)) (n .result) (a .budget) (m .loop2 .g) (m .loop2 .p) (m .loop2 .inv) (omega arith) in (
-      ap choiceOf (c .ended .ensures) ∙ l .0 ∙ ap (λ (x : ℕ). choice x (a .budget) (now (a .heap))) (n .ensures),
+      ap choiceOf (c .ended .ensures) ∙ l .0 ∙ ap (λ (x : ℕ). choice 4 8 x (a .budget) (now (a .heap))) (n .ensures),
       subst (λ (r : Scan). r .start + r .bytes ≤ length (now (a .heap))) (sym (c .ended .ensures)) (l .1),
     )
 

@@ -1,5 +1,5 @@
 -- `heap_mark::mark` meets its contract: the first segment's positions, then those from the next segment on. Assumes nothing.
-use mathlib.Core.Path.{_≡_, refl, sym, _∙_}
+use mathlib.Core.Path.{_≡_, sym, _∙_}
 use Prim.Native.Nat.{_+_, _-_, _*_, _/_, _%_}
 use native.Mathlib.Omega.{arith}
 use denote.Ref.{now}
@@ -41,7 +41,7 @@ returns-2 : tie.Need-returns-2
 returns-2 c =
     let a = c .before .before .before .before .before .args in
     let h = now (a .heap) in
-    sym (mark-part (length h) h (a .p .0) (a .n) (a .p .0 / 8 * 8 + 4) (a .p .0 % 8) (omega arith) refl refl _ (omega arith) (c .set-bits .ensures))
+    sym (mark-part 4 8 (length h) h (a .p .0) (a .n) (a .p .0 / 8 * 8 + 4) (a .p .0 % 8) (omega arith) (omega arith) (omega arith) (omega arith) _ (omega arith) (c .set-bits .ensures))
 
 add-set-bits-2 : tie.Need-add-set-bits-2
 add-set-bits-2 c = search needs
@@ -80,7 +80,7 @@ returns-3 c =
     let l : length g ≡ length h = length-set h (p / 8 * 8 + 4) v in
     let e : p + (8 - p % 8) ≡ p / 8 * 8 + 8 = omega arith in
     c .before .before .mark-from .ensures
-    ∙ rw (l, ← e) (sym (mark-first (length h) h p (8 - p % 8) (p / 8 * 8 + 4) (p % 8) (omega arith) refl refl (s .args .n) (p + s .args .n - (p + (8 - p % 8))) (omega arith) v (omega arith) (c .before .before .before .before .set-bits2 .ensures)))
+    ∙ rw (l, ← e) (sym (mark-first 4 8 (length h) h p (8 - p % 8) (p / 8 * 8 + 4) (p % 8) (omega arith) (omega arith) (omega arith) (omega arith) (s .args .n) (p + s .args .n - (p + (8 - p % 8))) (omega arith) v (omega arith) (c .before .before .before .before .set-bits2 .ensures)))
 
 pub mark-spec : {M : Type 1} → statement M
 mark-spec =

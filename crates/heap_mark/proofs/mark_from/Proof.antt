@@ -49,7 +49,7 @@ loop-again c =
       omega arith,
       omega arith,
       simp length-set (l .inv .2),
-      l .inv .3 ∙ mark-first L (l .heap) (l .at) 8 (l .at + 4) 0 (omega arith) (omega arith) (omega arith) (a .end .0 - l .at) _ (omega arith) _ (omega arith) (c .set-bits .ensures),
+      l .inv .3 ∙ mark-first 4 8 L (l .heap) (l .at) 8 (l .at + 4) 0 (omega arith) (omega arith) (omega arith) (omega arith) (a .end .0 - l .at) _ (omega arith) _ (omega arith) (c .set-bits .ensures),
     )
 
 add-set-bits-2 : tie.Need-add-set-bits-2 Inv-loop μ-loop
@@ -75,7 +75,7 @@ returns c =
     let a = c .before .before .before .before .before .before .args in
     let l = c .before .before .before .before .loop in
     let L = length (now (a .heap)) in
-    sym (l .inv .3 ∙ mark-part L (l .heap) (l .at) (a .end .0 - l .at) (l .at + 4) 0 (omega arith) (omega arith) (omega arith) _ (omega arith) (c .set-bits2 .ensures))
+    sym (l .inv .3 ∙ mark-part 4 8 L (l .heap) (l .at) (a .end .0 - l .at) (l .at + 4) 0 (omega arith) (omega arith) (omega arith) (omega arith) _ (omega arith) (c .set-bits2 .ensures))
 
 same-length-2 : tie.Need-same-length-2 Inv-loop μ-loop
 same-length-2 c = search needs

@@ -1,5 +1,5 @@
 -- `heap_marked::marked` meets its contract: the first segment's positions, then those from the next segment on. Assumes nothing.
-use mathlib.Core.Path.{_≡_, refl, sym, _∙_}
+use mathlib.Core.Path.{_≡_, sym, _∙_}
 use mathlib.Core.Bool.{_&&_}
 use Prim.Native.Nat.{_+_, _-_, _*_, _/_, _%_}
 use native.Mathlib.Omega.{arith}
@@ -40,7 +40,7 @@ returns-2 : tie.Need-returns-2
 returns-2 c =
     let a = c .before .before .before .before .before .args in
     let h = now (a .heap) in
-    sym (marked-part (length h) h (a .p .0) (a .n) (a .p .0 / 8 * 8 + 4) (a .p .0 % 8) (omega arith) refl refl (c .bits-set .result) (c .bits-set .ensures))
+    sym (marked-part 4 8 (length h) h (a .p .0) (a .n) (a .p .0 / 8 * 8 + 4) (a .p .0 % 8) (omega arith) (omega arith) (omega arith) (omega arith) (c .bits-set .result) (c .bits-set .ensures))
 
 add-bits-set-2 : tie.Need-add-bits-set-2
 add-bits-set-2 c = search needs
@@ -74,7 +74,7 @@ step c =
     let h = now (a .heap) in
     let p = a .p .0 in
     let e : p + (8 - p % 8) ≡ p / 8 * 8 + 8 = omega arith in
-    rw (← e) (marked-first (length h) h p (8 - p % 8) (p / 8 * 8 + 4) (p % 8) (omega arith) refl refl (a .n) (p + a .n - (p + (8 - p % 8))) (omega arith) (c .bits-set2 .result) (c .bits-set2 .ensures))
+    rw (← e) (marked-first 4 8 (length h) h p (8 - p % 8) (p / 8 * 8 + 4) (p % 8) (omega arith) (omega arith) (omega arith) (omega arith) (a .n) (p + a .n - (p + (8 - p % 8))) (omega arith) (c .bits-set2 .result) (c .bits-set2 .ensures))
 
 returns-3 : tie.Need-returns-3
 returns-3 c = c .marked-from .ensures ∙ sym (step (c .before .before) ∙ rw (c .before .if3 .taken))

@@ -46,7 +46,7 @@ step c =
     let l = c .before .before .before .loop in
     let h = now (a .heap) in
     l .inv .2
-    ∙ marked-first (length h) h (l .at) 8 (l .at + 4) 0 (omega arith) (omega arith) (omega arith) (a .end .0 - l .at) (a .end .0 - (l .at + 8)) (omega arith) (c .bits-set .result) (c .bits-set .ensures)
+    ∙ marked-first 4 8 (length h) h (l .at) 8 (l .at + 4) 0 (omega arith) (omega arith) (omega arith) (omega arith) (a .end .0 - l .at) (a .end .0 - (l .at + 8)) (omega arith) (c .bits-set .result) (c .bits-set .ensures)
 
 add-at : tie.Need-add-at Inv-loop μ-loop
 add-at c = search needs
@@ -80,7 +80,7 @@ returns-2 c =
     let a = c .before .before .before .before .before .before .args in
     let l = c .before .before .before .before .loop in
     let h = now (a .heap) in
-    sym (l .inv .2 ∙ marked-part (length h) h (l .at) (a .end .0 - l .at) (l .at + 4) 0 (omega arith) (omega arith) (omega arith) (c .bits-set2 .result) (c .bits-set2 .ensures))
+    sym (l .inv .2 ∙ marked-part 4 8 (length h) h (l .at) (a .end .0 - l .at) (l .at + 4) 0 (omega arith) (omega arith) (omega arith) (omega arith) (c .bits-set2 .result) (c .bits-set2 .ensures))
 
 returns-3 : tie.Need-returns-3 Inv-loop μ-loop
 returns-3 c =

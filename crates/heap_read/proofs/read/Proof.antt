@@ -9,8 +9,8 @@ use borrow.Author.Tests.{lt-ltb, le-ltb, le-leb, lt-leb, eq-eqb, ne-eqb}
 use Rattle.number.specs.Parts.{at}
 use Rattle.number.proofs.LittleLaws.{le-word}
 use Rattle.heap_layout.specs.Reading.{heapReading}
-use Rattle.heap_laws.proofs.MarkLaws.{bit-at, bit-alone}
-use Rattle.heap_laws.proofs.ReadLaws.{told, read-told}
+use Rattle.heap_laws.proofs.MarkLaws.{bit-alone}
+use Rattle.heap_laws.proofs.ReadLaws.{told, read-told, bit-told}
 use Rattle.heap_read.proofs.read.Statement.{statement}
 use Rattle.heap_read.proofs.read.Tie as tie
 
@@ -119,7 +119,7 @@ returns-7 c =
       le-ltb _ _ (c .before .before .before .before .if4 .left),
       lt-leb _ _ (c .before .before .before .if5 .left),
       lt-leb _ _ (c .before .before .if6 .left),
-      bit-at (at (now (a .heap))) (a .p .0),
+      bit-told 4 8 (at (now (a .heap))) (a .p .0) (a .p .0 / 8 * 8 + 4) (a .p .0 % 8) (omega arith) (omega arith),
       c .bit .ensures,
       k .0,
       k .1,

@@ -11,7 +11,7 @@ use Rattle.heap_stamp.proofs.stamp.Statement.{statement}
 use Rattle.heap_stamp.proofs.stamp.Tie as tie
 
 abbrev Inv-loop : tie.InvT-loop
-Inv-loop heap₀ len how b header whole d₀ heap d = (d % 8 ≡ 0) × (d ≤ len) × (length heap ≡ length heap₀) × (heap ≡ placed how b len d heap₀)
+Inv-loop heap₀ len how b header whole d₀ heap d = (d % 8 ≡ 0) × (d ≤ len) × (length heap ≡ length heap₀) × (heap ≡ placed 4 8 how b len d heap₀)
 
 abbrev μ-loop : tie.MeasureT-loop
 μ-loop heap₀ len how b header whole d₀ heap d = len - d
@@ -57,7 +57,7 @@ loop-again c =
       omega arith,
       omega arith,
       search needs,
-      c .before .before .put-segment2 .ensures ∙ rw (l .inv .3, f .first-bits .ensures) (placed-more (a .how) (a .base .0) (a .len) (omega arith) (omega arith) (l .d) 8 _ (l .inv .0) (omega arith) (omega arith)),
+      c .before .before .put-segment2 .ensures ∙ rw (l .inv .3, f .first-bits .ensures) (placed-more 4 8 (omega arith) refl (a .how) (a .base .0) (a .len) (omega arith) (omega arith) (omega arith) (l .d) 8 _ (l .inv .0) (omega arith) (omega arith)),
     )
 
 cast-last : tie.Need-cast-last Inv-loop μ-loop
@@ -88,8 +88,8 @@ returns c =
     let a = f .before .before .before .before .before .before .args in
     c .before .before .put-segment3 .ensures
     ∙ rw (l .inv .3, c .before .before .before .first-bits2 .ensures, f .before .before .before .put-segment .ensures)
-    (placed-more (a .how) (a .base .0) (a .len) (omega arith) (omega arith) (l .d) (a .len - l .d) _ (l .inv .0) (omega arith) (omega arith)
-    ∙ placed-all (a .how) (a .base .0) (a .len) (omega arith) (omega arith) (l .d + 8) (now (a .heap)) (omega arith) (omega arith) (omega arith))
+    (placed-more 4 8 (omega arith) refl (a .how) (a .base .0) (a .len) (omega arith) (omega arith) (omega arith) (l .d) (a .len - l .d) _ (l .inv .0) (omega arith) (omega arith)
+    ∙ placed-all 4 8 (omega arith) refl (a .how) (a .base .0) (a .len) (omega arith) (omega arith) (omega arith) (l .d + 8) (now (a .heap)) (omega arith) (omega arith) (omega arith))
 
 same-length-2 : tie.Need-same-length-2 Inv-loop μ-loop
 same-length-2 c = search needs
@@ -101,7 +101,7 @@ returns-2 c =
     let a = f .before .before .before .before .before .before .args in
     l .inv .3
     ∙ rw (f .before .before .before .put-segment .ensures)
-    (placed-all (a .how) (a .base .0) (a .len) (omega arith) (omega arith) (l .d) (now (a .heap)) (l .inv .0) (omega arith) (omega arith))
+    (placed-all 4 8 (omega arith) refl (a .how) (a .base .0) (a .len) (omega arith) (omega arith) (omega arith) (l .d) (now (a .heap)) (l .inv .0) (omega arith) (omega arith))
 
 pub stamp-spec : {M : Type 1} → statement M
 stamp-spec =

@@ -1,4 +1,4 @@
--- `monitor::step` meets its contract: a call that both forms have, or place. Assumes nothing.
+-- `monitor::step` meets its contract: a call that every form has, or place. Assumes nothing.
 use borrow.Author.Needs.{needs}
 use Rattle.monitor.proofs.step.Statement.{statement}
 use Rattle.monitor.proofs.step.Tie as tie

@@ -9,6 +9,7 @@ use Rattle.monitor_base.proofs.CallLaws.{early-good}
 use Rattle.monitor_read_laws.proofs.AnswerLaws.{answers, refuses}
 use Rattle.monitor_read_laws.proofs.AskingLaws.{in-area, ask-at, ask-out, there, base-at}
 use borrow.Author.Needs.{needs}
+use Rattle.map.specs.FormMap.{under}
 use Rattle.monitor_ask.proofs.ask.Statement.{statement}
 use Rattle.monitor_ask.proofs.ask.Tie as tie
 
@@ -19,9 +20,9 @@ entry c = c .before .before .before .before .before
 abbrev shadows : tie.Start → Shadows
 shadows c = (now (c .args .heap), (now (c .args .primary), now (c .args .secondary)))
 
-good : (c : tie.Else1) → (goodMap (entry c .args .map) ≡ true) × (lengthsFit (entry c .args .map) (shadows (entry c)) ≡ true)
+good : (c : tie.Else1) → (goodMap (under (entry c .args .form) (entry c .args .map)) ≡ true) × (lengthsFit (under (entry c .args .form) (entry c .args .map)) (shadows (entry c)) ≡ true)
 unfolding lengthsFit
-good c = early-good (entry c .args .map) (shadows (entry c)) (sym (c .if1 .left) ∙ c .before .checked .ensures)
+good c = early-good (under (entry c .args .form) (entry c .args .map)) (shadows (entry c)) (sym (c .if1 .left) ∙ c .before .checked .ensures)
 
 checked-requires : tie.Need-checked-requires
 checked-requires c κs = search needs
@@ -33,7 +34,7 @@ returns : tie.Need-returns
 unfolding lengthsFit
 returns c =
     let e = c .before .before .before .before .before .before in
-    refuses (e .args .map) (ask (e .args .a .0)) (shadows e) (c .refusal .result) _ (c .refusal .ensures) (c .before .before .checked .ensures) (c .before .if1 .taken)
+    refuses (under (e .args .form) (e .args .map)) (ask (e .args .a .0)) (shadows e) (c .refusal .result) _ (c .refusal .ensures) (c .before .before .checked .ensures) (c .before .if1 .taken)
 
 locate-requires : tie.Need-locate-requires
 locate-requires c κs = search needs
@@ -49,15 +50,15 @@ returns-2 c =
     let l = c .before .before .before in
     let e = entry (l .before) in
     let g = good (l .before) in
-    answers (e .args .map) (ask (e .args .a .0)) (shadows e) (c .refusal2 .result) _ (c .refusal2 .ensures)
-    (ask-out (e .args .map) (shadows e) (g .0) (g .1) (e .args .a .0) (rw (c .before .enum-told .given .1) at (l .locate .ensures)))
+    answers (under (e .args .form) (e .args .map)) (ask (e .args .a .0)) (shadows e) (c .refusal2 .result) _ (c .refusal2 .ensures)
+    (ask-out (under (e .args .form) (e .args .map)) (shadows e) (g .0) (g .1) (e .args .a .0) (rw (c .before .enum-told .given .1) at (l .locate .ensures)))
 
 reading-requires : tie.Need-reading-requires
 reading-requires c κs =
     let l = c .before in
     let e = entry (l .before) in
     let g = good (l .before) in
-    there (e .args .map) (shadows e) (g .0) (g .1) (e .args .a .0) (l .locate .result) (l .locate .ensures)
+    there (under (e .args .form) (e .args .map)) (shadows e) (g .0) (g .1) (e .args .a .0) (l .locate .result) (l .locate .ensures)
 
 origin-requires : tie.Need-origin-requires
 origin-requires c κs = search needs
@@ -68,7 +69,7 @@ told-requires c κs =
     let l = r .before .before in
     let e = entry (l .before) in
     let g = good (l .before) in
-    base-at (e .args .map) (shadows e) (g .0) (g .1) (l .locate .result) (r .reading .result) (r .reading .ensures) _ (c .origin .ensures)
+    base-at (under (e .args .form) (e .args .map)) (shadows e) (g .0) (g .1) (l .locate .result) (r .reading .result) (r .reading .ensures) _ (c .origin .ensures)
 
 returns-3 : tie.Need-returns-3
 returns-3 c =
@@ -78,8 +79,8 @@ returns-3 c =
     let l = m .before in
     let e = entry (l .before) in
     let g = good (l .before) in
-    answers (e .args .map) (ask (e .args .a .0)) (shadows e) (c .told .result) _ (c .told .ensures)
-    (ask-at (e .args .map) (shadows e) (g .0) (g .1) (e .args .a .0) (l .locate .result) (l .locate .ensures) (in-area _ (m .match .keys2)) _ (r .reading .ensures) _
+    answers (under (e .args .form) (e .args .map)) (ask (e .args .a .0)) (shadows e) (c .told .result) _ (c .told .ensures)
+    (ask-at (under (e .args .form) (e .args .map)) (shadows e) (g .0) (g .1) (e .args .a .0) (l .locate .result) (l .locate .ensures) (in-area _ (m .match .keys2)) _ (r .reading .ensures) _
     (o .origin .ensures))
 
 pub ask-spec : {M : Type 1} → statement M

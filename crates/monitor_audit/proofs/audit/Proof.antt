@@ -3,6 +3,7 @@ use mathlib.Core.Path.{_≡_, sym, _∙_}
 use mathlib.Core.Bool.{true}
 use borrow.Author.Needs.{needs}
 use denote.Ref.{now}
+use Rattle.map.specs.FormMap.{under}
 use Rattle.map.specs.Map.{goodMap}
 use Rattle.plain.specs.Call.{audit}
 use Rattle.shadows.specs.Shadows.{Shadows, lengthsFit}
@@ -31,28 +32,28 @@ returns : tie.Need-returns
 unfolding lengthsFit
 returns c =
     let e = c .before .before .before .before .before .before in
-    refuses (e .args .map) audit (shadows e) (c .refusal .result) _ (c .refusal .ensures) (c .before .before .checked .ensures) (c .before .if1 .taken)
+    refuses (under (e .args .form) (e .args .map)) audit (shadows e) (c .refusal .result) _ (c .refusal .ensures) (c .before .before .checked .ensures) (c .before .if1 .taken)
 
-good : (c : tie.Else1) → (goodMap (entry c .args .map) ≡ true) × (lengthsFit (entry c .args .map) (shadows (entry c)) ≡ true)
+good : (c : tie.Else1) → (goodMap (under (entry c .args .form) (entry c .args .map)) ≡ true) × (lengthsFit (under (entry c .args .form) (entry c .args .map)) (shadows (entry c)) ≡ true)
 unfolding lengthsFit
-good c = early-good (entry c .args .map) (shadows (entry c)) (sym (c .if1 .left) ∙ c .before .checked .ensures)
+good c = early-good (under (entry c .args .form) (entry c .args .map)) (shadows (entry c)) (sym (c .if1 .left) ∙ c .before .checked .ensures)
 
 audit-requires : tie.Need-audit-requires
 audit-requires c κs =
-    let l = heap-lengths (entry c .args .map) (shadows (entry c)) (good c .0) (good c .1) in
+    let l = heap-lengths (under (entry c .args .form) (entry c .args .map)) (shadows (entry c)) (good c .0) (good c .1) in
     (l .1, l .2)
 
 audit-requires-2 : tie.Need-audit-requires-2
 audit-requires-2 c κs =
     let e = entry (c .before) in
-    let l = stack-lengths (e .args .map) (shadows e) (good (c .before) .0) (good (c .before) .1) in
+    let l = stack-lengths (under (e .args .form) (e .args .map)) (shadows e) (good (c .before) .0) (good (c .before) .1) in
     (l .0 ∙ sym (l .1), l .2)
 
 joined-requires : tie.Need-joined-requires
 joined-requires c κs =
     let e = entry (c .before .before) in
     let g = good (c .before .before) in
-    sums-fit (e .args .map) (shadows e) (g .0) (g .1) (c .before .audit .result) (c .audit2 .result) (c .before .audit .ensures) (c .audit2 .ensures)
+    sums-fit (under (e .args .form) (e .args .map)) (shadows e) (g .0) (g .1) (c .before .audit .result) (c .audit2 .result) (c .before .audit .ensures) (c .audit2 .ensures)
 
 returns-2 : tie.Need-returns-2
 returns-2 c =
@@ -60,8 +61,8 @@ returns-2 c =
     let g = good (c .before .before .before) in
     let h = c .before .before .audit .result in
     let k = c .before .audit2 .result in
-    answers (e .args .map) audit (shadows e) (c .joined .result) (auditsAnswer h k) (c .joined .ensures)
-    (audits (e .args .map) (shadows e) (g .0) (g .1) h k (c .before .before .audit .ensures) (c .before .audit2 .ensures))
+    answers (under (e .args .form) (e .args .map)) audit (shadows e) (c .joined .result) (auditsAnswer h k) (c .joined .ensures)
+    (audits (under (e .args .form) (e .args .map)) (shadows e) (g .0) (g .1) h k (c .before .before .audit .ensures) (c .before .audit2 .ensures))
 
 pub audit-spec : {M : Type 1} → statement M
 audit-spec =

@@ -1,4 +1,5 @@
 -- `monitor_c::block_monitor_begin` meets its contract. Assumes nothing.
+use Rattle.map.specs.declared.Form.the-variants.{Player}
 use Rattle.monitor_c_lent.proofs.LentLaws.{spoken}
 use borrow.Author.Needs.{needs}
 use Rattle.monitor_c.proofs.block_monitor_begin.Statement.{statement}
@@ -29,7 +30,7 @@ returns : tie.Need-returns
 returns c =
     let b = c .before .before .before .before .before .before .before .before in
     let h = b .before in
-    spoken _ _ (c .told .last .1 .0) _ _ _ _ _ _ _ (c .told .ensures) (rw (h .beginning .ensures) at (b .begin .ensures))
+    spoken Player _ _ (c .told .last .1 .0) _ _ _ _ _ _ _ (c .told .ensures) (rw (h .beginning .ensures) at (b .begin .ensures))
     (h .before .before .before .before .map-of .ensures)
 
 pub block-monitor-begin-spec : {M : Type 1} → statement M

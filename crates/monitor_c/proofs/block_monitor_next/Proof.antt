@@ -1,4 +1,5 @@
 -- `monitor_c::block_monitor_next` meets its contract. Assumes nothing.
+use Rattle.map.specs.declared.Form.the-variants.{Player}
 use Rattle.monitor_c_lent.proofs.LentLaws.{spoken}
 use borrow.Author.Needs.{needs}
 use Rattle.monitor_c.proofs.block_monitor_next.Statement.{statement}
@@ -14,7 +15,7 @@ told-requires : tie.Need-told-requires
 told-requires c κs = search needs
 
 returns : tie.Need-returns
-returns c = spoken _ _ (c .told .last .1 .0) _ _ _ _ _ _ _ (c .told .ensures) (c .before .before .next .ensures) (c .before .before .before .map-of .ensures)
+returns c = spoken Player _ _ (c .told .last .1 .0) _ _ _ _ _ _ _ (c .told .ensures) (c .before .before .next .ensures) (c .before .before .before .map-of .ensures)
 
 pub block-monitor-next-spec : {M : Type 1} → statement M
 block-monitor-next-spec = tie.close (tie.spec map-of-requires next-requires told-requires returns)

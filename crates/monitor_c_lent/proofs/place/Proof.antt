@@ -11,7 +11,7 @@ place-requires : tie.Need-place-requires
 place-requires c κs = search needs
 
 returns : tie.Need-returns
-returns c = lent _ _ _ _ _ (c .place .ensures) (c .before .map-of .ensures)
+returns c = lent _ (c .before .before .before .before .before .args .form) _ _ _ _ (c .place .ensures) (c .before .map-of .ensures)
 
 pub place-spec : {M : Type 1} → statement M
 place-spec = tie.close (tie.spec map-of-requires place-requires returns)

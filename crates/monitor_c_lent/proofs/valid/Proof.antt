@@ -11,7 +11,7 @@ valid-requires : tie.Need-valid-requires
 valid-requires c κs = search needs
 
 returns : tie.Need-returns
-returns c = lent _ _ _ _ _ (c .valid .ensures) (c .before .map-of .ensures)
+returns c = lent _ (c .before .before .before .before .before .args .form) _ _ _ _ (c .valid .ensures) (c .before .map-of .ensures)
 
 pub valid-spec : {M : Type 1} → statement M
 valid-spec = tie.close (tie.spec map-of-requires valid-requires returns)

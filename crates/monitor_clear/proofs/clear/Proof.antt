@@ -5,6 +5,7 @@ use Rattle.shadows.specs.Shadows.{Shadows, lengthsFit}
 use Rattle.monitor_write_laws.proofs.OutcomeLaws.{refused, stepped}
 use Rattle.monitor_write_laws.proofs.ClearingLaws.{clear-step}
 use borrow.Author.Needs.{needs}
+use Rattle.map.specs.FormMap.{under}
 use Rattle.monitor_clear.proofs.clear.Statement.{statement}
 use Rattle.monitor_clear.proofs.clear.Tie as tie
 
@@ -34,7 +35,7 @@ returns : tie.Need-returns
 unfolding lengthsFit
 returns c =
     let e = c .before .before .before .before .before .before in
-    refused (e .args .map) clear (shadows e) _ (c .before .before .checked .ensures) _ (c .before .if1 .taken) (c .refusal .ensures)
+    refused (under (e .args .form) (e .args .map)) clear (shadows e) _ (c .before .before .checked .ensures) _ (c .before .if1 .taken) (c .refusal .ensures)
 
 fill-zero-requires : tie.Need-fill-zero-requires
 fill-zero-requires c κs = search needs
@@ -63,8 +64,8 @@ returns-2 c =
     let f = before-fills c in
     let e = f .before .before .before .before .before in
     let t : Shadows = (f-heap c .fill-zero .last .0, (f-primary c .fill-zero2 .last .0, f-secondary c .fill-zero3 .last .0)) in
-    stepped (e .args .map) clear (shadows e) _ (f .before .checked .ensures) _ (f .if1 .left) t done (c .refusal2 .ensures)
-    (λ g l. clear-step (e .args .map) (shadows e) t l (f-heap c .fill-zero .ensures) (f-primary c .fill-zero2 .ensures) (f-secondary c .fill-zero3 .ensures))
+    stepped (under (e .args .form) (e .args .map)) clear (shadows e) _ (f .before .checked .ensures) _ (f .if1 .left) t done (c .refusal2 .ensures)
+    (λ g l. clear-step (under (e .args .form) (e .args .map)) (shadows e) t l (f-heap c .fill-zero .ensures) (f-primary c .fill-zero2 .ensures) (f-secondary c .fill-zero3 .ensures))
 
 pub clear-spec : {M : Type 1} → statement M
 clear-spec =

@@ -8,6 +8,7 @@ use Rattle.monitor_base.specs.declared.Located.the-variants.{Heap, Stack, Outsi
 use Rattle.monitor_base.proofs.LocatingLaws.{heap-there}
 use Rattle.monitor_write_laws.proofs.EndChecks.{null-freed, outside-freed, stack-freed, heap-freed, freeable}
 use borrow.Author.Needs.{needs}
+use Rattle.map.specs.FormMap.{under}
 use Rattle.monitor_free_check.proofs.check.Statement.{statement}
 use Rattle.monitor_free_check.proofs.check.Tie as tie
 
@@ -44,7 +45,7 @@ read-requires c κs =
     let e = entry l in
     let g = e .pre in
     let h = in-heap p in
-    heap-there (e .args .map) (shadows e) (g .0) (g .1) (e .args .base .0) _ (h .0) (h .1)
+    heap-there (under (e .args .form) (e .args .map)) (shadows e) (g .0) (g .1) (e .args .base .0) _ (h .0) (h .1)
 
 ending-requires : tie.Need-ending-requires
 ending-requires c κs = search needs
@@ -61,7 +62,7 @@ returns c =
     let l = o .before .before in
     let e = entry l in
     let g = e .pre in
-    (null-freed (e .args .map) (shadows e) (e .args .base .0) (g .0) (g .1) (c .if1 .taken), λ z. c .if1 .taken)
+    (null-freed (under (e .args .form) (e .args .map)) (shadows e) (e .args .base .0) (g .0) (g .1) (c .if1 .taken), λ z. c .if1 .taken)
 
 returns-2 : tie.Need-returns-2
 returns-2 c =
@@ -71,14 +72,14 @@ returns-2 c =
     let e = entry l in
     let g = e .pre in
     let h = in-heap p in
-    rw (c .ending .ensures, x .read .ensures) (heap-freed (e .args .map) (shadows e) (e .args .base .0) (g .0) (g .1) _ h, freeable (e .args .map) (shadows e) (e .args .base .0) (g .0) (g .1) _ h)
+    rw (c .ending .ensures, x .read .ensures) (heap-freed (under (e .args .form) (e .args .map)) (shadows e) (e .args .base .0) (g .0) (g .1) _ h, freeable (under (e .args .form) (e .args .map)) (shadows e) (e .args .base .0) (g .0) (g .1) _ h)
 
 returns-3 : tie.Need-returns-3
 returns-3 c =
     let l = c .before .before in
     let e = entry l in
     let g = e .pre in
-    (stack-freed (e .args .map) (shadows e) (e .args .base .0) (g .0) (g .1) _ (in-stack c), λ z. absurd (omega arith))
+    (stack-freed (under (e .args .form) (e .args .map)) (shadows e) (e .args .base .0) (g .0) (g .1) _ (in-stack c), λ z. absurd (omega arith))
 
 returns-4 : tie.Need-returns-4
 returns-4 c =
@@ -86,7 +87,7 @@ returns-4 c =
     let l = o .before .before in
     let e = entry l in
     let g = e .pre in
-    (outside-freed (e .args .map) (shadows e) (e .args .base .0) (g .0) (g .1) (c .if1 .left) (outside o), λ z. absurd (omega arith))
+    (outside-freed (under (e .args .form) (e .args .map)) (shadows e) (e .args .base .0) (g .0) (g .1) (c .if1 .left) (outside o), λ z. absurd (omega arith))
 
 pub check-spec : {M : Type 1} → statement M
 check-spec =

@@ -2,6 +2,7 @@
 use mathlib.Core.Path.{_≡_, sym, ap, _∙_}
 use denote.Ref.{now}
 use lib.ListN.{length}
+use Rattle.map.specs.FormMap.{numberSize, segmentSize}
 use Rattle.number.specs.Parts.{at}
 use Rattle.plain.specs.Reading.{Reading, nothing}
 use Rattle.plain.specs.ShadowCalls.{inOne}
@@ -18,7 +19,7 @@ abbrev entry : tie.After-in-one → tie.Start
 entry c = c .before .before .before
 
 abbrev reading : tie.After-in-one → Reading
-reading c = heapReading 4 8 (length (now (entry c .args .heap))) (at (now (entry c .args .heap))) (entry c .args .p .0)
+reading c = heapReading (numberSize (entry c .args .form)) (segmentSize (entry c .args .form)) (length (now (entry c .args .heap))) (at (now (entry c .args .heap))) (entry c .args .p .0)
 
 in-one : (c : tie.After-in-one) → c .in-one .result ≡ inOne (entry c .args .n) (reading c)
 in-one c = c .in-one .ensures ∙ ap (inOne _) (c .before .read .ensures)
@@ -32,7 +33,7 @@ in-one-requires c κs = search needs
 marked-requires : tie.Need-marked-requires
 marked-requires c κs =
     let e = entry (c .before) in
-    (heap-room _ (at (now (e .args .heap))) (e .args .p .0) (e .args .n) (sym (in-one (c .before)) ∙ c .if1 .taken), e .pre .1, e .pre .2)
+    (heap-room _ _ _ (at (now (e .args .heap))) (e .args .p .0) (e .args .n) (sym (in-one (c .before)) ∙ c .if1 .taken), e .pre .1, e .pre .2)
 
 yes-no-requires : tie.Need-yes-no-requires
 yes-no-requires c κs = search needs

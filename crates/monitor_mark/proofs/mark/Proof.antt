@@ -3,6 +3,7 @@ use mathlib.Core.Path.{_≡_, ap, subst}
 use mathlib.Core.List.{List}
 use Prim.Native.Nat.{ℕ}
 use denote.Ref.{now}
+use Rattle.map.specs.FormMap.{segmentSize}
 use Rattle.stack_layout.specs.Ops.{StackShadows}
 use Rattle.monitor_base.specs.declared.Located.{Located}
 use Rattle.monitor_write_laws.specs.Checks.{Markable}
@@ -14,8 +15,8 @@ use Rattle.monitor_mark.proofs.mark.Tie as tie
 abbrev entry : tie.After-slice-known2 → tie.Start
 entry c = c .before .before
 
-markable : (c : tie.After-slice-known2) (x : Located) → entry c .args .place ≡ x → Markable x (entry c .args .n) (now (entry c .args .heap)) (now (entry c .args .primary))
-markable c x q = subst (λ x. Markable x (entry c .args .n) (now (entry c .args .heap)) (now (entry c .args .primary))) q (entry c .pre)
+markable : (c : tie.After-slice-known2) (x : Located) → entry c .args .place ≡ x → Markable (segmentSize (entry c .args .form)) x (entry c .args .n) (now (entry c .args .heap)) (now (entry c .args .primary))
+markable c x q = subst (λ x. Markable (segmentSize (entry c .args .form)) x (entry c .args .n) (now (entry c .args .heap)) (now (entry c .args .primary))) q (entry c .pre)
 
 enum-known-place : tie.Need-enum-known-place
 enum-known-place c = search needs

@@ -6,24 +6,24 @@ use native.Mathlib.Omega.{arith}
 use denote.Ref.{now}
 use Rattle.plain.specs.Areas.{mapRules}
 use Rattle.plain.specs.Ops.{readAny}
-use Rattle.plain.specs.Reading.{Reading}
 use Rattle.plain.proofs.ClimbLaws.{from, climb-end}
 use Rattle.shadows.specs.Shadows.{Shadows, shadowOps}
-use Rattle.monitor_base.proofs.LocatingLaws.{heap-lengths, stack-lengths}
+use Rattle.monitor_base.proofs.LocatingLaws.{heap-lengths, stack-lengths, ends}
 use Rattle.monitor_read_laws.proofs.AskingLaws.{there}
 use Rattle.monitor_read_laws.proofs.SkippingLaws.{skips, goes-at, damaged-at, first-at}
 use Rattle.monitor_next.specs.Searched.{searchOf}
 use borrow.Author.Needs.{needs}
+use Rattle.map.specs.FormMap.{under}
 use Rattle.monitor_next.proofs.climb.Statement.{statement}
 use Rattle.monitor_next.proofs.climb.Tie as tie
 
 abbrev Inv-loop : tie.InvT-loop
-Inv-loop map heap primary secondary top at₀ at =
-    let rd = readAny (mapRules map) (shadowOps map) (heap, (primary, secondary)) in
-    from rd (mapRules map .top) (at₀ .0) ≡ from rd (mapRules map .top) (at .0)
+Inv-loop form map heap primary secondary top at₀ at =
+    let rd = readAny (mapRules (under form map)) (shadowOps (under form map)) (heap, (primary, secondary)) in
+    from rd (mapRules (under form map) .top) (at₀ .0) ≡ from rd (mapRules (under form map) .top) (at .0)
 
 abbrev μ-loop : tie.MeasureT-loop
-μ-loop map heap primary secondary top at₀ at = mapRules map .top - at .0
+μ-loop form map heap primary secondary top at₀ at = mapRules (under form map) .top - at .0
 
 -- the function's entry, its shadows, and the address of this turn
 abbrev entry : tie.At-loop Inv-loop μ-loop → tie.Start Inv-loop μ-loop
@@ -39,14 +39,14 @@ here c = c .loop .at .0
 abbrev turn : tie.Else1 Inv-loop μ-loop → tie.At-loop Inv-loop μ-loop
 turn c = c .before .before .before
 
-low : (c : tie.Else1 Inv-loop μ-loop) → here (turn c) < mapRules (entry (turn c) .args .map) .top
+low : (c : tie.Else1 Inv-loop μ-loop) → here (turn c) < mapRules (under (entry (turn c) .args .form) (entry (turn c) .args .map)) .top
 low c = omega (arith, c .if1 .left, turn c .before .top .ensures)
 
 -- where the climb goes on
 goes : (c : tie.After-past Inv-loop μ-loop) → let k = c .before .before .before .before .before .before .before in
     let e = entry (turn k) in
-    let rd = readAny (mapRules (e .args .map)) (shadowOps (e .args .map)) (shadows e) in
-    let top = mapRules (e .args .map) .top in
+    let rd = readAny (mapRules (under (e .args .form) (e .args .map))) (shadowOps (under (e .args .form) (e .args .map))) (shadows e) in
+    let top = mapRules (under (e .args .form) (e .args .map)) .top in
     (here (turn k) < c .past .result .0) × (c .past .result .0 ≤ top) × (from rd top (here (turn k)) ≡ from rd top (c .past .result .0))
 goes c =
     let f = c .before .before in
@@ -55,12 +55,14 @@ goes c =
     let l = r .before in
     let k = l .before in
     let e = entry (turn k) in
-    skips (e .args .map) (shadows e) (e .pre .0) (e .pre .1) (here (turn k)) (l .locate .result) (l .locate .ensures) (low k)
-    (goes-at (e .args .map) (shadows e) (e .pre .0) (e .pre .1) (here (turn k)) (l .locate .result) (l .locate .ensures) _ (r .reading .ensures)
+    skips (under (e .args .form) (e .args .map)) (shadows e) (e .pre .0) (e .pre .1) (here (turn k)) (l .locate .result) (l .locate .ensures) (low k)
+    (goes-at (under (e .args .form) (e .args .map)) (shadows e) (e .pre .0) (e .pre .1) (here (turn k)) (l .locate .result) (l .locate .ensures) _ (r .reading .ensures)
     (sym (d .damaged .ensures) ∙ f .before .if2 .left) (sym (f .first .ensures) ∙ c .before .if3 .left)) _ (c .past .ensures)
 
 top-requires : tie.Need-top-requires Inv-loop μ-loop
-top-requires c κs = c .before .before .before .pre .0
+top-requires c κs =
+    let e = c .before .before .before in
+    ends (under (e .args .form) (e .args .map)) (shadows e) (e .pre .0) (e .pre .1)
 
 loop-holds : tie.Need-loop-holds Inv-loop μ-loop
 loop-holds c = refl
@@ -71,7 +73,7 @@ locate-requires c κs = search needs
 reading-requires : tie.Need-reading-requires Inv-loop μ-loop
 reading-requires c κs =
     let e = entry (turn (c .before)) in
-    there (e .args .map) (shadows e) (e .pre .0) (e .pre .1) (here (turn (c .before))) (c .locate .result) (c .locate .ensures)
+    there (under (e .args .form) (e .args .map)) (shadows e) (e .pre .0) (e .pre .1) (here (turn (c .before))) (c .locate .result) (c .locate .ensures)
 
 damaged-requires : tie.Need-damaged-requires Inv-loop μ-loop
 damaged-requires c κs = search needs
@@ -86,7 +88,7 @@ past-requires : tie.Need-past-requires Inv-loop μ-loop
 past-requires c κs =
     let l = c .before .before .before .before .before in
     let e = entry (turn (l .before)) in
-    (e .pre .0, heap-lengths (e .args .map) (shadows e) (e .pre .0) (e .pre .1) .0, stack-lengths (e .args .map) (shadows e) (e .pre .0) (e .pre .1) .0, l .locate .ensures)
+    (e .pre .0, heap-lengths (under (e .args .form) (e .args .map)) (shadows e) (e .pre .0) (e .pre .1) .0, stack-lengths (under (e .args .form) (e .args .map)) (shadows e) (e .pre .0) (e .pre .1) .0, l .locate .ensures)
 
 loop-less : tie.Need-loop-less Inv-loop μ-loop
 loop-less c = omega (arith, goes c .0, goes c .1)
@@ -106,7 +108,7 @@ returns-2 c =
     let l = r .before in
     let k = l .before in
     let e = entry (turn k) in
-    sym (ap searchOf (turn k .loop .inv ∙ damaged-at (e .args .map) (shadows e) (e .pre .0) (e .pre .1) (here (turn k)) (l .locate .result) (l .locate .ensures) (low k)
+    sym (ap searchOf (turn k .loop .inv ∙ damaged-at (under (e .args .form) (e .args .map)) (shadows e) (e .pre .0) (e .pre .1) (here (turn k)) (l .locate .result) (l .locate .ensures) (low k)
     _ (r .reading .ensures) (sym (d .damaged .ensures) ∙ c .if2 .taken)))
 
 returns-3 : tie.Need-returns-3 Inv-loop μ-loop
@@ -117,7 +119,7 @@ returns-3 c =
     let l = r .before in
     let k = l .before in
     let e = entry (turn k) in
-    let t = first-at (e .args .map) (shadows e) (e .pre .0) (e .pre .1) (here (turn k)) (l .locate .result) (l .locate .ensures) (low k)
+    let t = first-at (under (e .args .form) (e .args .map)) (shadows e) (e .pre .0) (e .pre .1) (here (turn k)) (l .locate .result) (l .locate .ensures) (low k)
     _ (r .reading .ensures) (sym (f .first .ensures) ∙ c .before .if3 .taken) in
     rw (c .length-of .ensures) (sym (ap searchOf (turn k .loop .inv ∙ t .2)))
 

@@ -9,6 +9,7 @@ use Rattle.monitor_base.proofs.CallLaws.{early-good}
 use Rattle.monitor_read_laws.proofs.AnswerLaws.{answers, refuses}
 use Rattle.monitor_next.proofs.SearchingLaws.{next-search}
 use borrow.Author.Needs.{needs}
+use Rattle.map.specs.FormMap.{under}
 use Rattle.monitor_next.proofs.next.Statement.{statement}
 use Rattle.monitor_next.proofs.next.Tie as tie
 
@@ -22,9 +23,9 @@ shadows c = (now (c .args .heap), (now (c .args .primary), now (c .args .seconda
 abbrev asked : tie.Start → Call
 asked c = next (c .args .a .0)
 
-good : (c : tie.Else1) → (goodMap (entry c .args .map) ≡ true) × (lengthsFit (entry c .args .map) (shadows (entry c)) ≡ true)
+good : (c : tie.Else1) → (goodMap (under (entry c .args .form) (entry c .args .map)) ≡ true) × (lengthsFit (under (entry c .args .form) (entry c .args .map)) (shadows (entry c)) ≡ true)
 unfolding lengthsFit
-good c = early-good (entry c .args .map) (shadows (entry c)) (sym (c .if1 .left) ∙ c .before .checked .ensures)
+good c = early-good (under (entry c .args .form) (entry c .args .map)) (shadows (entry c)) (sym (c .if1 .left) ∙ c .before .checked .ensures)
 
 checked-requires : tie.Need-checked-requires
 checked-requires c κs = search needs
@@ -36,7 +37,7 @@ returns : tie.Need-returns
 unfolding lengthsFit
 returns c =
     let e = c .before .before .before .before .before .before in
-    refuses (e .args .map) (asked e) (shadows e) (c .refusal .result) _ (c .refusal .ensures) (c .before .before .checked .ensures) (c .before .if1 .taken)
+    refuses (under (e .args .form) (e .args .map)) (asked e) (shadows e) (c .refusal .result) _ (c .refusal .ensures) (c .before .before .checked .ensures) (c .before .if1 .taken)
 
 climb-requires : tie.Need-climb-requires
 climb-requires c κs = good c
@@ -49,8 +50,8 @@ returns-2 c =
     let k = c .before .before in
     let e = entry k in
     let g = good k in
-    answers (e .args .map) (asked e) (shadows e) (c .answered .result) _ (c .answered .ensures)
-    (next-search (e .args .map) (shadows e) (g .0) (g .1) (e .args .a .0) _ (c .before .climb .ensures))
+    answers (under (e .args .form) (e .args .map)) (asked e) (shadows e) (c .answered .result) _ (c .answered .ensures)
+    (next-search (under (e .args .form) (e .args .map)) (shadows e) (g .0) (g .1) (e .args .a .0) _ (c .before .climb .ensures))
 
 pub next-spec : {M : Type 1} → statement M
 next-spec = tie.close (tie.spec checked-requires refusal-requires returns climb-requires answered-requires returns-2)

@@ -11,6 +11,7 @@ use Rattle.monitor_read_laws.proofs.AnswerLaws.{answers, refuses}
 use Rattle.monitor_read_laws.proofs.PlacingLaws.{place-empty}
 use Rattle.monitor_place.proofs.RoomLaws.{room-fits, room-answer}
 use borrow.Author.Needs.{needs}
+use Rattle.map.specs.FormMap.{under}
 use Rattle.monitor_place.proofs.place.Statement.{statement}
 use Rattle.monitor_place.proofs.place.Tie as tie
 
@@ -24,9 +25,9 @@ shadows c = (now (c .args .heap), (now (c .args .primary), now (c .args .seconda
 abbrev asked : tie.Start → Call
 asked c = place (c .args .length) (c .args .budget)
 
-good : (c : tie.Else1) → (goodMap (entry c .args .map) ≡ true) × (lengthsFit (entry c .args .map) (shadows (entry c)) ≡ true)
+good : (c : tie.Else1) → (goodMap (under (entry c .args .form) (entry c .args .map)) ≡ true) × (lengthsFit (under (entry c .args .form) (entry c .args .map)) (shadows (entry c)) ≡ true)
 unfolding lengthsFit
-good c = early-good (entry c .args .map) (shadows (entry c)) (sym (c .if1 .left) ∙ c .before .checked .ensures)
+good c = early-good (under (entry c .args .form) (entry c .args .map)) (shadows (entry c)) (sym (c .if1 .left) ∙ c .before .checked .ensures)
 
 checked-requires : tie.Need-checked-requires
 checked-requires c κs = search needs
@@ -38,7 +39,7 @@ returns : tie.Need-returns
 unfolding lengthsFit
 returns c =
     let e = c .before .before .before .before .before .before in
-    refuses (e .args .map) (asked e) (shadows e) (c .refusal .result) _ (c .refusal .ensures) (c .before .before .checked .ensures) (c .before .if1 .taken)
+    refuses (under (e .args .form) (e .args .map)) (asked e) (shadows e) (c .refusal .result) _ (c .refusal .ensures) (c .before .before .checked .ensures) (c .before .if1 .taken)
 
 refusal-requires-2 : tie.Need-refusal-requires-2
 refusal-requires-2 c κs = search needs
@@ -48,13 +49,13 @@ returns-2 c =
     let k = c .before .before in
     let e = entry k in
     let g = good k in
-    answers (e .args .map) (asked e) (shadows e) (c .refusal2 .result) _ (c .refusal2 .ensures)
-    (place-empty (e .args .map) (shadows e) (g .0) (g .1) (e .args .length) (e .args .budget) (c .before .if2 .taken))
+    answers (under (e .args .form) (e .args .map)) (asked e) (shadows e) (c .refusal2 .result) _ (c .refusal2 .ensures)
+    (place-empty (under (e .args .form) (e .args .map)) (shadows e) (g .0) (g .1) (e .args .length) (e .args .budget) (c .before .if2 .taken))
 
 choose-requires : tie.Need-choose-requires
 choose-requires c κs =
     let k = c .before in
-    let l = heap-lengths (entry k .args .map) (shadows (entry k)) (good k .0) (good k .1) in
+    let l = heap-lengths (under (entry k .args .form) (entry k .args .map)) (shadows (entry k)) (good k .0) (good k .1) in
     (l .1, l .2)
 
 answered-requires : tie.Need-answered-requires
@@ -62,7 +63,7 @@ answered-requires c κs =
     let k = c .before .before in
     let e = entry k in
     let r = c .choose in
-    room-fits (e .args .map) (shadows e) (good k .0) (good k .1) (e .args .length) (e .args .budget) (r .result) (r .ensures .0) (r .ensures .1)
+    room-fits (under (e .args .form) (e .args .map)) (shadows e) (good k .0) (good k .1) (e .args .length) (e .args .budget) (r .result) (r .ensures .0) (r .ensures .1)
 
 returns-3 : tie.Need-returns-3
 returns-3 c =
@@ -70,8 +71,8 @@ returns-3 c =
     let e = entry k in
     let g = good k in
     let r = c .before .choose in
-    answers (e .args .map) (asked e) (shadows e) (c .answered .result) _ (c .answered .ensures)
-    (room-answer (e .args .map) (shadows e) (g .0) (g .1) (e .args .length) (e .args .budget) (r .result) (r .ensures .0) (c .before .before .if2 .left))
+    answers (under (e .args .form) (e .args .map)) (asked e) (shadows e) (c .answered .result) _ (c .answered .ensures)
+    (room-answer (under (e .args .form) (e .args .map)) (shadows e) (g .0) (g .1) (e .args .length) (e .args .budget) (r .result) (r .ensures .0) (c .before .before .if2 .left))
 
 pub place-spec : {M : Type 1} → statement M
 place-spec =

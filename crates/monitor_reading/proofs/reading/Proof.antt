@@ -1,6 +1,7 @@
 -- `monitor_reading::reading` meets its contract: one arm for each area. Assumes nothing.
 use borrow.Author.Needs.{needs}
 use denote.Ref.{now}
+use Rattle.map.specs.FormMap.{segmentSize}
 use Rattle.monitor_read_laws.proofs.AskingLaws.{same-there}
 use Rattle.monitor_reading.proofs.reading.Statement.{statement}
 use Rattle.monitor_reading.proofs.reading.Tie as tie
@@ -11,7 +12,7 @@ enum-known-l c = search needs
 read-requires : tie.Need-read-requires
 read-requires c κs =
     let e = c .before .before .before .before .before .before in
-    same-there (e .args .l) _ (now (e .args .heap)) (now (e .args .primary)) (now (e .args .secondary)) (c .before .l .given .1) (e .pre)
+    same-there (segmentSize (e .args .form)) (e .args .l) _ (now (e .args .heap)) (now (e .args .primary)) (now (e .args .secondary)) (c .before .l .given .1) (e .pre)
 
 enum-known-l-2 : tie.Need-enum-known-l-2
 enum-known-l-2 c = search needs
@@ -19,7 +20,7 @@ enum-known-l-2 c = search needs
 read-requires-2 : tie.Need-read-requires-2
 read-requires-2 c κs =
     let e = c .before .before .before .before .before .before in
-    same-there (e .args .l) _ (now (e .args .heap)) (now (e .args .primary)) (now (e .args .secondary)) (c .before .l2 .given .1) (e .pre)
+    same-there (segmentSize (e .args .form)) (e .args .l) _ (now (e .args .heap)) (now (e .args .primary)) (now (e .args .secondary)) (c .before .l2 .given .1) (e .pre)
 
 enum-told : tie.Need-enum-told
 enum-told c = search needs

@@ -3,6 +3,7 @@ use denote.Ref.{now}
 use Rattle.shadows.specs.Shadows.{Shadows}
 use Rattle.monitor_write_laws.proofs.RecordChecks.{record-refused, record-done}
 use borrow.Author.Needs.{needs}
+use Rattle.map.specs.FormMap.{under}
 use Rattle.monitor_record.proofs.numbered.Statement.{statement}
 use Rattle.monitor_record.proofs.numbered.Tie as tie
 
@@ -36,7 +37,7 @@ returns c =
     let i = x .before .before .before .before in
     let k = i .before in
     let e = entry k in
-    record-done (e .args .map) (shadows e) (e .args .base .0) (e .args .len) (e .args .how) _ (k .check .ensures .0) (i .if1 .taken) (k .check .result .place) (k .check .ensures .1 (i .if1 .taken) .0) _
+    record-done (under (e .args .form) (e .args .map)) (shadows e) (e .args .base .0) (e .args .len) (e .args .how) _ (k .check .ensures .0) (i .if1 .taken) (k .check .result .place) (k .check .ensures .1 (i .if1 .taken) .0) _
     (x .stamp .ensures)
 
 same-length-4 : tie.Need-same-length-4
@@ -52,7 +53,7 @@ returns-2 : tie.Need-returns-2
 returns-2 c =
     let k = c .before in
     let e = entry k in
-    record-refused (e .args .map) (shadows e) (e .args .base .0) (e .args .len) (e .args .how) _ (k .check .ensures .0) (c .if1 .left)
+    record-refused (under (e .args .form) (e .args .map)) (shadows e) (e .args .base .0) (e .args .len) (e .args .how) _ (k .check .ensures .0) (c .if1 .left)
 
 pub numbered-spec : {M : Type 1} → statement M
 numbered-spec =

@@ -10,10 +10,11 @@ use Rattle.monitor_base.specs.Locating.{Lies}
 use Rattle.monitor_base.specs.declared.Located.{Located}
 use Rattle.monitor_base.specs.declared.Located.the-variants.{Heap, Stack, Outside}
 use Rattle.monitor_base.proofs.CallLaws.{early-good}
-use Rattle.monitor_base.proofs.LocatingLaws.{heap-there, stack-there, heap-end, stack-end}
+use Rattle.monitor_base.proofs.LocatingLaws.{ends, heap-there, stack-there, heap-end, stack-end}
 use Rattle.monitor_write_laws.proofs.CheckLaws.{number-early}
 use Rattle.monitor_write_laws.proofs.RecordChecks.{no-literal, record-3, record-4, literal-4, record-heap, record-stack, stampable}
 use borrow.Author.Needs.{needs}
+use Rattle.map.specs.FormMap.{under}
 use Rattle.monitor_record_check.proofs.check.Statement.{statement}
 use Rattle.monitor_record_check.proofs.check.Tie as tie
 
@@ -24,9 +25,9 @@ entry c = c .before .before .before .before
 abbrev shadows : tie.Start → Shadows
 shadows c = (now (c .args .heap), (now (c .args .primary), now (c .args .secondary)))
 
-good-fit : (c : tie.Else1) → (goodMap (entry (c .before) .args .map) ≡ true) × (lengthsFit (entry (c .before) .args .map) (shadows (entry (c .before))) ≡ true)
+good-fit : (c : tie.Else1) → (goodMap (under (entry (c .before) .args .form) (entry (c .before) .args .map)) ≡ true) × (lengthsFit (under (entry (c .before) .args .form) (entry (c .before) .args .map)) (shadows (entry (c .before))) ≡ true)
 unfolding lengthsFit
-good-fit c = early-good (entry (c .before) .args .map) (shadows (entry (c .before))) (sym (c .if1 .left) ∙ c .before .checked .ensures)
+good-fit c = early-good (under (entry (c .before) .args .form) (entry (c .before) .args .map)) (shadows (entry (c .before))) (sym (c .if1 .left) ∙ c .before .checked .ensures)
 
 abbrev asked : tie.Start → Call
 asked c = begin (c .args .how) (c .args .base .0) (c .args .len)
@@ -51,13 +52,13 @@ returns : tie.Need-returns
 unfolding lengthsFit
 returns c =
     let e = entry (c .before) in
-    (number-early (e .args .map) (asked e) (shadows e) _ (c .before .checked .ensures) (c .if1 .taken), λ z. absurd (c .if1 .taken z))
+    (number-early (under (e .args .form) (e .args .map)) (asked e) (shadows e) _ (c .before .checked .ensures) (c .if1 .taken), λ z. absurd (c .if1 .taken z))
 
 returns-2 : tie.Need-returns-2
 returns-2 c =
     let e = entry (c .before .before) in
     let g = good-fit (c .before) in
-    (record-3 (e .args .map) (shadows e) (e .args .base .0) (e .args .len) (e .args .how) (g .0) (g .1) (c .if2 .taken), λ z. absurd (omega arith))
+    (record-3 (under (e .args .form) (e .args .map)) (shadows e) (e .args .base .0) (e .args .len) (e .args .how) (g .0) (g .1) (c .if2 .taken), λ z. absurd (omega arith))
 
 locate-requires : tie.Need-locate-requires
 locate-requires c κs = search needs
@@ -75,10 +76,14 @@ returns-3 c =
     let l = p .before .before in
     let e = entry (l .before .before .before) in
     let g = good-fit (l .before .before) in
-    (literal-4 (e .args .map) (shadows e) (e .args .base .0) (e .args .len) (e .args .how) (g .0) (g .1) (l .before .if2 .left) (c .enum-told .given .1) (in-heap p .0), λ z. absurd (omega arith))
+    (literal-4 (under (e .args .form) (e .args .map)) (shadows e) (e .args .base .0) (e .args .len) (e .args .how) (g .0) (g .1) (l .before .if2 .left) (c .enum-told .given .1) (in-heap p .0), λ z. absurd (omega arith))
 
 end-requires : tie.Need-end-requires
-end-requires c κs = good-fit (c .before .before .before .before .before .before) .0
+end-requires c κs =
+    let i = c .before .before .before .before .before .before in
+    let e = entry (i .before) in
+    let g = good-fit i in
+    ends (under (e .args .form) (e .args .map)) (shadows e) (g .0) (g .1)
 
 on-heap-requires : tie.Need-on-heap-requires
 on-heap-requires c κs =
@@ -87,15 +92,19 @@ on-heap-requires c κs =
     let e = entry (l .before .before .before) in
     let g = good-fit (l .before .before) in
     let h = in-heap p in (
-      (omega (arith, l .before .if2 .left), c .end .ensures ∙ heap-end (e .args .map) (shadows e) (g .0) (g .1)),
-      heap-there (e .args .map) (shadows e) (g .0) (g .1) (e .args .base .0) _ (h .0) (h .1),
+      (omega (arith, l .before .if2 .left), c .end .ensures ∙ heap-end (under (e .args .form) (e .args .map)) (shadows e) (g .0) (g .1)),
+      heap-there (under (e .args .form) (e .args .map)) (shadows e) (g .0) (g .1) (e .args .base .0) _ (h .0) (h .1),
     )
 
 enum-known-place-2 : tie.Need-enum-known-place-2
 enum-known-place-2 c = search needs
 
 end-requires-2 : tie.Need-end-requires-2
-end-requires-2 c κs = good-fit (c .before .before .before .before .before) .0
+end-requires-2 c κs =
+    let i = c .before .before .before .before .before in
+    let e = entry (i .before) in
+    let g = good-fit i in
+    ends (under (e .args .form) (e .args .map)) (shadows e) (g .0) (g .1)
 
 on-stack-requires : tie.Need-on-stack-requires
 on-stack-requires c κs =
@@ -104,8 +113,8 @@ on-stack-requires c κs =
     let e = entry (l .before .before .before) in
     let g = good-fit (l .before .before) in
     let h = in-stack p in (
-      (omega (arith, l .before .if2 .left), c .end2 .ensures ∙ stack-end (e .args .map) (shadows e) (g .0) (g .1)),
-      stack-there (e .args .map) (shadows e) (g .0) (g .1) (e .args .base .0) _ (h .0) (h .1),
+      (omega (arith, l .before .if2 .left), c .end2 .ensures ∙ stack-end (under (e .args .form) (e .args .map)) (shadows e) (g .0) (g .1)),
+      stack-there (under (e .args .form) (e .args .map)) (shadows e) (g .0) (g .1) (e .args .base .0) _ (h .0) (h .1),
     )
 
 enum-told-2 : tie.Need-enum-told-2
@@ -120,8 +129,8 @@ returns-4 c =
     let g = good-fit (l .before .before) in
     let h = in-heap p in
     let o = no-literal (e .args .how) (t .match2 .keys2) in
-    let n = c .on-heap .ensures ∙ record-heap (e .args .map) (shadows e) (e .args .base .0) (e .args .len) (e .args .how) (g .0) (g .1) _ o (h .0) (h .1) in
-    (n, λ z. (h, stampable (e .args .map) (shadows e) (e .args .base .0) (e .args .len) (e .args .how) (sym n ∙ z) (Heap _) h))
+    let n = c .on-heap .ensures ∙ record-heap (under (e .args .form) (e .args .map)) (shadows e) (e .args .base .0) (e .args .len) (e .args .how) (g .0) (g .1) _ o (h .0) (h .1) in
+    (n, λ z. (h, stampable (under (e .args .form) (e .args .map)) (shadows e) (e .args .base .0) (e .args .len) (e .args .how) (sym n ∙ z) (Heap _) h))
 
 returns-5 : tie.Need-returns-5
 returns-5 c =
@@ -130,15 +139,15 @@ returns-5 c =
     let e = entry (l .before .before .before) in
     let g = good-fit (l .before .before) in
     let h = in-stack p in
-    let n = c .on-stack .ensures ∙ record-stack (e .args .map) (shadows e) (e .args .base .0) (e .args .len) (e .args .how) (g .0) (g .1) _ (h .0) (h .1) in
-    (n, λ z. (h, stampable (e .args .map) (shadows e) (e .args .base .0) (e .args .len) (e .args .how) (sym n ∙ z) (Stack _) h))
+    let n = c .on-stack .ensures ∙ record-stack (under (e .args .form) (e .args .map)) (shadows e) (e .args .base .0) (e .args .len) (e .args .how) (g .0) (g .1) _ (h .0) (h .1) in
+    (n, λ z. (h, stampable (under (e .args .form) (e .args .map)) (shadows e) (e .args .base .0) (e .args .len) (e .args .how) (sym n ∙ z) (Stack _) h))
 
 returns-6 : tie.Need-returns-6
 returns-6 c =
     let l = c .before .before in
     let e = entry (l .before .before .before) in
     let g = good-fit (l .before .before) in
-    (record-4 (e .args .map) (shadows e) (e .args .base .0) (e .args .len) (e .args .how) (g .0) (g .1) (l .before .if2 .left) (outside c), λ z. absurd (omega arith))
+    (record-4 (under (e .args .form) (e .args .map)) (shadows e) (e .args .base .0) (e .args .len) (e .args .how) (g .0) (g .1) (l .before .if2 .left) (outside c), λ z. absurd (omega arith))
 
 pub check-spec : {M : Type 1} → statement M
 check-spec =

@@ -8,6 +8,7 @@ use Rattle.monitor_base.specs.declared.Located.the-variants.{Heap, Stack, Outsi
 use Rattle.monitor_base.proofs.LocatingLaws.{stack-there}
 use Rattle.monitor_write_laws.proofs.EndChecks.{outside-removed, heap-removed, stack-removed, removable}
 use borrow.Author.Needs.{needs}
+use Rattle.map.specs.FormMap.{under}
 use Rattle.monitor_remove_check.proofs.check.Statement.{statement}
 use Rattle.monitor_remove_check.proofs.check.Tie as tie
 
@@ -44,7 +45,7 @@ read-requires c κs =
     let e = entry l in
     let g = e .pre in
     let h = in-stack p in
-    stack-there (e .args .map) (shadows e) (g .0) (g .1) (e .args .base .0) _ (h .0) (h .1)
+    stack-there (under (e .args .form) (e .args .map)) (shadows e) (g .0) (g .1) (e .args .base .0) _ (h .0) (h .1)
 
 ending-requires : tie.Need-ending-requires
 ending-requires c κs = search needs
@@ -63,21 +64,21 @@ returns c =
     let e = entry l in
     let g = e .pre in
     let h = in-stack p in
-    rw (c .ending .ensures, x .read .ensures) (stack-removed (e .args .map) (shadows e) (e .args .base .0) (g .0) (g .1) _ h, removable (e .args .map) (shadows e) (e .args .base .0) (g .0) (g .1) _ h)
+    rw (c .ending .ensures, x .read .ensures) (stack-removed (under (e .args .form) (e .args .map)) (shadows e) (e .args .base .0) (g .0) (g .1) _ h, removable (under (e .args .form) (e .args .map)) (shadows e) (e .args .base .0) (g .0) (g .1) _ h)
 
 returns-2 : tie.Need-returns-2
 returns-2 c =
     let l = c .before .before in
     let e = entry l in
     let g = e .pre in
-    (heap-removed (e .args .map) (shadows e) (e .args .base .0) (g .0) (g .1) _ (in-heap c), λ z. omega arith)
+    (heap-removed (under (e .args .form) (e .args .map)) (shadows e) (e .args .base .0) (g .0) (g .1) _ (in-heap c), λ z. omega arith)
 
 returns-3 : tie.Need-returns-3
 returns-3 c =
     let l = c .before .before in
     let e = entry l in
     let g = e .pre in
-    (outside-removed (e .args .map) (shadows e) (e .args .base .0) (g .0) (g .1) (outside c), λ z. omega arith)
+    (outside-removed (under (e .args .form) (e .args .map)) (shadows e) (e .args .base .0) (g .0) (g .1) (outside c), λ z. omega arith)
 
 pub check-spec : {M : Type 1} → statement M
 check-spec =

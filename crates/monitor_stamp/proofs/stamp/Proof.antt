@@ -3,6 +3,7 @@ use mathlib.Core.Path.{_≡_, ap, subst}
 use mathlib.Core.List.{List}
 use Prim.Native.Nat.{ℕ}
 use denote.Ref.{now}
+use Rattle.map.specs.FormMap.{segmentSize}
 use Rattle.shadows.specs.Shadows.{Shadows}
 use Rattle.stack_layout.specs.Ops.{StackShadows}
 use Rattle.monitor_base.specs.declared.Located.{Located}
@@ -18,8 +19,8 @@ entry c = c .before .before .before
 abbrev shadows : tie.Start → Shadows
 shadows c = (now (c .args .heap), (now (c .args .primary), now (c .args .secondary)))
 
-stampable : (c : tie.After-slice-known3) (x : Located) → entry c .args .place ≡ x → Stampable x (entry c .args .len) (shadows (entry c))
-stampable c x q = subst (λ x. Stampable x (entry c .args .len) (shadows (entry c))) q (entry c .pre)
+stampable : (c : tie.After-slice-known3) (x : Located) → entry c .args .place ≡ x → Stampable (segmentSize (entry c .args .form)) x (entry c .args .len) (shadows (entry c))
+stampable c x q = subst (λ x. Stampable (segmentSize (entry c .args .form)) x (entry c .args .len) (shadows (entry c))) q (entry c .pre)
 
 enum-known-place : tie.Need-enum-known-place
 enum-known-place c = search needs

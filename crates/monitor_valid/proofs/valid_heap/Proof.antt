@@ -11,6 +11,7 @@ use Rattle.heap_layout.specs.Reading.{heapReading}
 use Rattle.monitor_base.proofs.LocatingLaws.{heap-lengths, heap-there, stack-there}
 use Rattle.monitor_read_laws.proofs.RangingLaws.{valid-heap-heap, valid-heap-stack, valid-out}
 use borrow.Author.Needs.{needs}
+use Rattle.map.specs.FormMap.{numberSize, segmentSize, under}
 use Rattle.monitor_valid.proofs.valid_heap.Statement.{statement}
 use Rattle.monitor_valid.proofs.valid_heap.Tie as tie
 
@@ -37,7 +38,7 @@ outside c = rw (c .enum-told .given .1) at (c .before .before .locate .ensures)
 read-requires : tie.Need-read-requires
 read-requires c κs =
     let e = c .before .before .before in
-    let l = heap-lengths (e .args .map) (shadows e) (e .pre .0) (e .pre .1) in
+    let l = heap-lengths (under (e .args .form) (e .args .map)) (shadows e) (e .pre .0) (e .pre .1) in
     (e .pre .2, l .1, l .2)
 
 locate-requires : tie.Need-locate-requires
@@ -56,15 +57,15 @@ returns c w =
     let e = entry l in
     let h = in-heap q in
     let f = l .before .read .ensures in
-    valid-heap-heap (e .args .map) (shadows e) (e .pre .0) (e .pre .1) w (e .args .n) _ _ (e .args .from .0) (q .q .given .0 .0 .0) _ (e .args .p .0) f (h .0) (h .1)
-    (f ∙ ap (heapReading 4 8 (length (now (e .args .heap))) (at (now (e .args .heap)))) (sym (c .before .if1 .taken))) (c .judged .ensures)
+    valid-heap-heap (under (e .args .form) (e .args .map)) (shadows e) (e .pre .0) (e .pre .1) w (e .args .n) _ _ (e .args .from .0) (q .q .given .0 .0 .0) _ (e .args .p .0) f (h .0) (h .1)
+    (f ∙ ap (heapReading (numberSize (e .args .form)) (segmentSize (e .args .form)) (length (now (e .args .heap))) (at (now (e .args .heap)))) (sym (c .before .if1 .taken))) (c .judged .ensures)
 
 read-requires-2 : tie.Need-read-requires-2
 read-requires-2 c κs =
     let q = c .before .before .before .before in
     let e = entry (q .before .before) in
     let h = in-heap q in
-    heap-there (e .args .map) (shadows e) (e .pre .0) (e .pre .1) (e .args .from .0) _ (h .0) (h .1)
+    heap-there (under (e .args .form) (e .args .map)) (shadows e) (e .pre .0) (e .pre .1) (e .args .from .0) _ (h .0) (h .1)
 
 judged-requires-2 : tie.Need-judged-requires-2
 judged-requires-2 c κs = search needs
@@ -77,7 +78,7 @@ read-requires-3 c κs =
     let q = c .before in
     let e = entry (q .before .before) in
     let h = in-stack q in
-    stack-there (e .args .map) (shadows e) (e .pre .0) (e .pre .1) (e .args .from .0) _ (h .0) (h .1)
+    stack-there (under (e .args .form) (e .args .map)) (shadows e) (e .pre .0) (e .pre .1) (e .args .from .0) _ (h .0) (h .1)
 
 apart-requires : tie.Need-apart-requires
 apart-requires c κs = search needs
@@ -94,7 +95,7 @@ returns-2 c w =
     let l = q .before .before in
     let e = entry l in
     let h = in-heap q in
-    valid-heap-heap (e .args .map) (shadows e) (e .pre .0) (e .pre .1) w (e .args .n) _ _ (e .args .from .0) (q .q .given .0 .0 .0) _ (e .args .p .0) (l .before .read .ensures) (h .0) (h .1)
+    valid-heap-heap (under (e .args .form) (e .args .map)) (shadows e) (e .pre .0) (e .pre .1) w (e .args .n) _ _ (e .args .from .0) (q .q .given .0 .0 .0) _ (e .args .p .0) (l .before .read .ensures) (h .0) (h .1)
     (c .before .read2 .ensures) (c .judged2 .ensures)
 
 returns-3 : tie.Need-returns-3
@@ -103,14 +104,14 @@ returns-3 c w =
     let l = q .before .before in
     let e = entry l in
     let h = in-stack q in
-    valid-heap-stack (e .args .map) (shadows e) (e .pre .0) (e .pre .1) w (e .args .n) _ _ (e .args .from .0) (q .q2 .given .0 .0 .0) _ (e .args .p .0) (l .before .read .ensures) (h .0) (h .1)
+    valid-heap-stack (under (e .args .form) (e .args .map)) (shadows e) (e .pre .0) (e .pre .1) w (e .args .n) _ _ (e .args .from .0) (q .q2 .given .0 .0 .0) _ (e .args .p .0) (l .before .read .ensures) (h .0) (h .1)
     (c .before .read3 .ensures) (c .apart .ensures)
 
 returns-4 : tie.Need-returns-4
 returns-4 c w =
     let l = c .before .before .before in
     let e = entry l in
-    valid-out (e .args .map) (shadows e) (e .pre .0) (e .pre .1) w (e .args .n) (e .args .map .«heap_start») _ _ (e .args .from .0) _ (l .before .read .ensures) (outside (c .before)) (c .apart2 .ensures)
+    valid-out (under (e .args .form) (e .args .map)) (shadows e) (e .pre .0) (e .pre .1) w (e .args .n) (e .args .map .«heap_start») _ _ (e .args .from .0) _ (l .before .read .ensures) (outside (c .before)) (c .apart2 .ensures)
 
 pub valid-heap-spec : {M : Type 1} → statement M
 valid-heap-spec =

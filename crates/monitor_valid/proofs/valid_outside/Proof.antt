@@ -7,6 +7,7 @@ use Rattle.monitor_base.specs.declared.Located.the-variants.{Heap, Stack, Outsi
 use Rattle.monitor_base.proofs.LocatingLaws.{heap-there, stack-there}
 use Rattle.monitor_read_laws.proofs.RangingLaws.{valid-out-heap, valid-out-stack, valid-out-out}
 use borrow.Author.Needs.{needs}
+use Rattle.map.specs.FormMap.{under}
 use Rattle.monitor_valid.proofs.valid_outside.Statement.{statement}
 use Rattle.monitor_valid.proofs.valid_outside.Tie as tie
 
@@ -41,7 +42,7 @@ read-requires c κs =
     let q = c .before in
     let e = entry (q .before .before) in
     let h = in-heap q in
-    heap-there (e .args .map) (shadows e) (e .pre .0) (e .pre .1) (e .args .from .0) _ (h .0) (h .1)
+    heap-there (under (e .args .form) (e .args .map)) (shadows e) (e .pre .0) (e .pre .1) (e .args .from .0) _ (h .0) (h .1)
 
 apart-requires : tie.Need-apart-requires
 apart-requires c κs = search needs
@@ -54,7 +55,7 @@ read-requires-2 c κs =
     let q = c .before in
     let e = entry (q .before .before) in
     let h = in-stack q in
-    stack-there (e .args .map) (shadows e) (e .pre .0) (e .pre .1) (e .args .from .0) _ (h .0) (h .1)
+    stack-there (under (e .args .form) (e .args .map)) (shadows e) (e .pre .0) (e .pre .1) (e .args .from .0) _ (h .0) (h .1)
 
 apart-requires-2 : tie.Need-apart-requires-2
 apart-requires-2 c κs = search needs
@@ -70,19 +71,19 @@ returns c w n =
     let q = c .before .before .before in
     let e = entry (q .before .before) in
     let h = in-heap q in
-    valid-out-heap (e .args .map) (shadows e) (e .pre .0) (e .pre .1) w n _ (e .args .from .0) (q .q .given .0 .0 .0) _ (h .0) (h .1) (c .before .read .ensures) (c .apart .ensures)
+    valid-out-heap (under (e .args .form) (e .args .map)) (shadows e) (e .pre .0) (e .pre .1) w n _ (e .args .from .0) (q .q .given .0 .0 .0) _ (h .0) (h .1) (c .before .read .ensures) (c .apart .ensures)
 
 returns-2 : tie.Need-returns-2
 returns-2 c w n =
     let q = c .before .before .before in
     let e = entry (q .before .before) in
     let h = in-stack q in
-    valid-out-stack (e .args .map) (shadows e) (e .pre .0) (e .pre .1) w n _ (e .args .from .0) (q .q2 .given .0 .0 .0) _ (h .0) (h .1) (c .before .read2 .ensures) (c .apart2 .ensures)
+    valid-out-stack (under (e .args .form) (e .args .map)) (shadows e) (e .pre .0) (e .pre .1) w n _ (e .args .from .0) (q .q2 .given .0 .0 .0) _ (h .0) (h .1) (c .before .read2 .ensures) (c .apart2 .ensures)
 
 returns-3 : tie.Need-returns-3
 returns-3 c w n =
     let e = entry (c .before .before .before) in
-    valid-out-out (e .args .map) (shadows e) (e .pre .0) (e .pre .1) w n (e .args .from .0) _ (outside (c .before)) (c .yes-no .ensures)
+    valid-out-out (under (e .args .form) (e .args .map)) (shadows e) (e .pre .0) (e .pre .1) w n (e .args .from .0) _ (outside (c .before)) (c .yes-no .ensures)
 
 pub valid-outside-spec : {M : Type 1} → statement M
 valid-outside-spec =

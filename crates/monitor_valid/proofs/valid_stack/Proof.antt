@@ -11,6 +11,7 @@ use Rattle.stack_layout.specs.Reading.{stackReading}
 use Rattle.monitor_base.proofs.LocatingLaws.{stack-lengths, heap-there, stack-there}
 use Rattle.monitor_read_laws.proofs.RangingLaws.{valid-stack-stack, valid-stack-heap, valid-out}
 use borrow.Author.Needs.{needs}
+use Rattle.map.specs.FormMap.{under}
 use Rattle.monitor_valid.proofs.valid_stack.Statement.{statement}
 use Rattle.monitor_valid.proofs.valid_stack.Tie as tie
 
@@ -37,7 +38,7 @@ outside c = rw (c .enum-told .given .1) at (c .before .before .locate .ensures)
 read-requires : tie.Need-read-requires
 read-requires c κs =
     let e = c .before .before .before in
-    let l = stack-lengths (e .args .map) (shadows e) (e .pre .0) (e .pre .1) in
+    let l = stack-lengths (under (e .args .form) (e .args .map)) (shadows e) (e .pre .0) (e .pre .1) in
     (e .pre .2, l .0 ∙ sym (l .1), l .2)
 
 locate-requires : tie.Need-locate-requires
@@ -56,7 +57,7 @@ returns c =
     let e = entry l in
     let h = in-stack q in
     let f = l .before .read .ensures in
-    valid-stack-stack (e .args .map) (shadows e) (e .pre .0) (e .pre .1) (e .args .write) (e .args .n) _ _ (e .args .from .0) (q .q .given .0 .0 .0) _ (e .args .p .0) f (h .0) (h .1)
+    valid-stack-stack (under (e .args .form) (e .args .map)) (shadows e) (e .pre .0) (e .pre .1) (e .args .write) (e .args .n) _ _ (e .args .from .0) (q .q .given .0 .0 .0) _ (e .args .p .0) f (h .0) (h .1)
     (f ∙ ap (stackReading (length (now (e .args .primary))) (at (now (e .args .primary))) (at (now (e .args .secondary)))) (sym (c .before .if1 .taken))) (c .judged .ensures)
 
 read-requires-2 : tie.Need-read-requires-2
@@ -64,7 +65,7 @@ read-requires-2 c κs =
     let q = c .before .before .before .before in
     let e = entry (q .before .before) in
     let h = in-stack q in
-    stack-there (e .args .map) (shadows e) (e .pre .0) (e .pre .1) (e .args .from .0) _ (h .0) (h .1)
+    stack-there (under (e .args .form) (e .args .map)) (shadows e) (e .pre .0) (e .pre .1) (e .args .from .0) _ (h .0) (h .1)
 
 judged-requires-2 : tie.Need-judged-requires-2
 judged-requires-2 c κs = search needs
@@ -77,7 +78,7 @@ read-requires-3 c κs =
     let q = c .before in
     let e = entry (q .before .before) in
     let h = in-heap q in
-    heap-there (e .args .map) (shadows e) (e .pre .0) (e .pre .1) (e .args .from .0) _ (h .0) (h .1)
+    heap-there (under (e .args .form) (e .args .map)) (shadows e) (e .pre .0) (e .pre .1) (e .args .from .0) _ (h .0) (h .1)
 
 apart-requires : tie.Need-apart-requires
 apart-requires c κs = search needs
@@ -94,7 +95,7 @@ returns-2 c =
     let l = q .before .before in
     let e = entry l in
     let h = in-stack q in
-    valid-stack-stack (e .args .map) (shadows e) (e .pre .0) (e .pre .1) (e .args .write) (e .args .n) _ _ (e .args .from .0) (q .q .given .0 .0 .0) _ (e .args .p .0) (l .before .read .ensures) (h .0) (h .1)
+    valid-stack-stack (under (e .args .form) (e .args .map)) (shadows e) (e .pre .0) (e .pre .1) (e .args .write) (e .args .n) _ _ (e .args .from .0) (q .q .given .0 .0 .0) _ (e .args .p .0) (l .before .read .ensures) (h .0) (h .1)
     (c .before .read2 .ensures) (c .judged2 .ensures)
 
 returns-3 : tie.Need-returns-3
@@ -103,14 +104,14 @@ returns-3 c =
     let l = q .before .before in
     let e = entry l in
     let h = in-heap q in
-    valid-stack-heap (e .args .map) (shadows e) (e .pre .0) (e .pre .1) (e .args .write) (e .args .n) _ _ (e .args .from .0) (q .q2 .given .0 .0 .0) _ (e .args .p .0) (l .before .read .ensures) (h .0) (h .1)
+    valid-stack-heap (under (e .args .form) (e .args .map)) (shadows e) (e .pre .0) (e .pre .1) (e .args .write) (e .args .n) _ _ (e .args .from .0) (q .q2 .given .0 .0 .0) _ (e .args .p .0) (l .before .read .ensures) (h .0) (h .1)
     (c .before .read3 .ensures) (c .apart .ensures)
 
 returns-4 : tie.Need-returns-4
 returns-4 c =
     let l = c .before .before .before in
     let e = entry l in
-    valid-out (e .args .map) (shadows e) (e .pre .0) (e .pre .1) (e .args .write) (e .args .n) (e .args .map .«stack_start») _ _ (e .args .from .0) _ (l .before .read .ensures) (outside (c .before)) (c .apart2 .ensures)
+    valid-out (under (e .args .form) (e .args .map)) (shadows e) (e .pre .0) (e .pre .1) (e .args .write) (e .args .n) (e .args .map .«stack_start») _ _ (e .args .from .0) _ (l .before .read .ensures) (outside (c .before)) (c .apart2 .ensures)
 
 pub valid-stack-spec : {M : Type 1} → statement M
 valid-stack-spec =

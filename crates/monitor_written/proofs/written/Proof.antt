@@ -3,6 +3,7 @@ use denote.Ref.{now}
 use Rattle.shadows.specs.Shadows.{Shadows}
 use Rattle.monitor_write_laws.proofs.WrittenChecks.{written-call}
 use borrow.Author.Needs.{needs}
+use Rattle.map.specs.FormMap.{under}
 use Rattle.monitor_written.proofs.written.Statement.{statement}
 use Rattle.monitor_written.proofs.written.Tie as tie
 
@@ -38,7 +39,7 @@ returns c =
     let e = entry k in
     let f = k .check .ensures in
     rw (c .refusal .ensures)
-    (written-call (e .args .map) (shadows e) (e .args .a .0) (e .args .n) _ (f .0) (k .check .result .place) (f .1) (f .2) _ (x .mark .ensures (now (e .args .secondary))))
+    (written-call (under (e .args .form) (e .args .map)) (shadows e) (e .args .a .0) (e .args .n) _ (f .0) (k .check .result .place) (f .1) (f .2) _ (x .mark .ensures (now (e .args .secondary))))
 
 pub written-spec : {M : Type 1} → statement M
 written-spec =

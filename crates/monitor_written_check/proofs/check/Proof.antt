@@ -15,6 +15,7 @@ use Rattle.monitor_write_laws.specs.AreaCalls.{writtenRefusal}
 use Rattle.monitor_write_laws.proofs.CheckLaws.{number-early}
 use Rattle.monitor_write_laws.proofs.WrittenChecks.{written-number-3, written-number-4, written-heap, written-stack, area-found}
 use borrow.Author.Needs.{needs}
+use Rattle.map.specs.FormMap.{under}
 use Rattle.monitor_written_check.proofs.check.Statement.{statement}
 use Rattle.monitor_written_check.proofs.check.Tie as tie
 
@@ -25,9 +26,9 @@ entry c = c .before .before .before .before
 abbrev shadows : tie.Start → Shadows
 shadows c = (now (c .args .heap), (now (c .args .primary), now (c .args .secondary)))
 
-good-fit : (c : tie.Else1) → (goodMap (entry (c .before) .args .map) ≡ true) × (lengthsFit (entry (c .before) .args .map) (shadows (entry (c .before))) ≡ true)
+good-fit : (c : tie.Else1) → (goodMap (under (entry (c .before) .args .form) (entry (c .before) .args .map)) ≡ true) × (lengthsFit (under (entry (c .before) .args .form) (entry (c .before) .args .map)) (shadows (entry (c .before))) ≡ true)
 unfolding lengthsFit
-good-fit c = early-good (entry (c .before) .args .map) (shadows (entry (c .before))) (sym (c .if1 .left) ∙ c .before .checked .ensures)
+good-fit c = early-good (under (entry (c .before) .args .form) (entry (c .before) .args .map)) (shadows (entry (c .before))) (sym (c .if1 .left) ∙ c .before .checked .ensures)
 
 -- the address lies in the heap, in the stack, in neither
 abbrev lies : tie.After-locate → Located → Type 0
@@ -49,13 +50,13 @@ returns : tie.Need-returns
 unfolding lengthsFit
 returns c =
     let e = entry (c .before) in
-    (number-early (e .args .map) (written (e .args .a .0) (e .args .n)) (shadows e) _ (c .before .checked .ensures) (c .if1 .taken), λ z. absurd (c .if1 .taken z), λ n. refl, tt)
+    (number-early (under (e .args .form) (e .args .map)) (written (e .args .a .0) (e .args .n)) (shadows e) _ (c .before .checked .ensures) (c .if1 .taken), λ z. absurd (c .if1 .taken z), λ n. refl, tt)
 
 returns-2 : tie.Need-returns-2
 returns-2 c =
     let e = entry (c .before .before) in
     let g = good-fit (c .before) in
-    (written-number-3 (e .args .map) (shadows e) (e .args .a .0) (e .args .n) (g .0) (g .1) (c .if2 .taken), λ z. absurd (omega arith), λ x. refl, tt)
+    (written-number-3 (under (e .args .form) (e .args .map)) (shadows e) (e .args .a .0) (e .args .n) (g .0) (g .1) (c .if2 .taken), λ z. absurd (omega arith), λ x. refl, tt)
 
 locate-requires : tie.Need-locate-requires
 locate-requires c κs = search needs
@@ -70,7 +71,7 @@ read-requires c κs =
     let e = entry (l .before .before .before) in
     let g = good-fit (l .before .before) in
     let h = in-heap p in
-    heap-there (e .args .map) (shadows e) (g .0) (g .1) (e .args .a .0) _ (h .0) (h .1)
+    heap-there (under (e .args .form) (e .args .map)) (shadows e) (g .0) (g .1) (e .args .a .0) _ (h .0) (h .1)
 
 refused-requires : tie.Need-refused-requires
 refused-requires c κs = search needs
@@ -88,7 +89,7 @@ read-requires-2 c κs =
     let e = entry (l .before .before .before) in
     let g = good-fit (l .before .before) in
     let h = in-stack p in
-    stack-there (e .args .map) (shadows e) (g .0) (g .1) (e .args .a .0) _ (h .0) (h .1)
+    stack-there (under (e .args .form) (e .args .map)) (shadows e) (g .0) (g .1) (e .args .a .0) _ (h .0) (h .1)
 
 refused-requires-2 : tie.Need-refused-requires-2
 refused-requires-2 c κs = search needs
@@ -107,8 +108,8 @@ returns-3 c =
     let e = entry (l .before .before .before) in
     let g = good-fit (l .before .before) in
     let h = in-heap p in
-    area-found (e .args .map) (shadows e) (e .args .a .0) (e .args .n) _
-    (c .before .refused .ensures ∙ ap (writtenRefusal false (e .args .n)) (x .read .ensures) ∙ written-heap (e .args .map) (shadows e) (e .args .a .0) (e .args .n) (g .0) (g .1) (l .before .if2 .left) _ (h .0) (h .1))
+    area-found (under (e .args .form) (e .args .map)) (shadows e) (e .args .a .0) (e .args .n) _
+    (c .before .refused .ensures ∙ ap (writtenRefusal false (e .args .n)) (x .read .ensures) ∙ written-heap (under (e .args .form) (e .args .map)) (shadows e) (e .args .a .0) (e .args .n) (g .0) (g .1) (l .before .if2 .left) _ (h .0) (h .1))
     (Heap _) h _ (c .in-area .ensures .0) (c .in-area .result .place) (c .in-area .ensures .1) (c .in-area .ensures .2)
 
 returns-4 : tie.Need-returns-4
@@ -119,8 +120,8 @@ returns-4 c =
     let e = entry (l .before .before .before) in
     let g = good-fit (l .before .before) in
     let h = in-stack p in
-    area-found (e .args .map) (shadows e) (e .args .a .0) (e .args .n) _
-    (c .before .refused2 .ensures ∙ ap (writtenRefusal true (e .args .n)) (x .read2 .ensures) ∙ written-stack (e .args .map) (shadows e) (e .args .a .0) (e .args .n) (g .0) (g .1) (l .before .if2 .left) _ (h .0) (h .1))
+    area-found (under (e .args .form) (e .args .map)) (shadows e) (e .args .a .0) (e .args .n) _
+    (c .before .refused2 .ensures ∙ ap (writtenRefusal true (e .args .n)) (x .read2 .ensures) ∙ written-stack (under (e .args .form) (e .args .map)) (shadows e) (e .args .a .0) (e .args .n) (g .0) (g .1) (l .before .if2 .left) _ (h .0) (h .1))
     (Stack _) h _ (c .in-area2 .ensures .0) (c .in-area2 .result .place) (c .in-area2 .ensures .1) (c .in-area2 .ensures .2)
 
 returns-5 : tie.Need-returns-5
@@ -128,7 +129,7 @@ returns-5 c =
     let l = c .before .before in
     let e = entry (l .before .before .before) in
     let g = good-fit (l .before .before) in
-    (written-number-4 (e .args .map) (shadows e) (e .args .a .0) (e .args .n) (g .0) (g .1) (l .before .if2 .left) (outside c), λ z. absurd (omega arith), λ x. refl, tt)
+    (written-number-4 (under (e .args .form) (e .args .map)) (shadows e) (e .args .a .0) (e .args .n) (g .0) (g .1) (l .before .if2 .left) (outside c), λ z. absurd (omega arith), λ x. refl, tt)
 
 pub check-spec : {M : Type 1} → statement M
 check-spec =

@@ -3,6 +3,7 @@ use mathlib.Core.Path.{_≡_, sym, _∙_}
 use mathlib.Core.Bool.{true}
 use native.Mathlib.Omega.{arith}
 use denote.Ref.{now}
+use Rattle.map.specs.FormMap.{player}
 use Rattle.map.specs.Map.{goodMap}
 use Rattle.shadows.specs.Shadows.{Shadows, lengthsFit}
 use Rattle.monitor_read_laws.proofs.AskingLaws.{in-area, there}
@@ -30,7 +31,7 @@ abbrev state : tie.Start → State
 state c = record { shadows = shadows c; cells = cells c; counter = 0 }
 
 good : (c : tie.Else1)
-    → (goodMap (entry (c .before) .args .map) ≡ true) × (lengthsFit (entry (c .before) .args .map) (shadows (entry (c .before))) ≡ true)
+    → (goodMap (player (entry (c .before) .args .map)) ≡ true) × (lengthsFit (player (entry (c .before) .args .map)) (shadows (entry (c .before))) ≡ true)
     × (cellsFit (entry (c .before) .args .map) (cells (entry (c .before))) ≡ true)
 unfolding lengthsFit cellsFit
 good c = early-good (entry (c .before) .args .map) (state (entry (c .before))) (sym (c .if1 .left) ∙ c .before .checked .ensures)
@@ -95,7 +96,7 @@ reading-requires c κs =
     let l = c .before .before .before in
     let e = entry (l .before .before) in
     let g = good (l .before) in
-    there (e .args .map) (shadows e) (g .0) (g .1) (e .args .to .0) (l .locate .result) (l .locate .ensures)
+    there (player (e .args .map)) (shadows e) (g .0) (g .1) (e .args .to .0) (l .locate .result) (l .locate .ensures)
 
 reading-requires-2 : tie.Need-reading-requires-2
 reading-requires-2 c κs =
@@ -103,7 +104,7 @@ reading-requires-2 c κs =
     let l = k .before .before in
     let e = entry (l .before .before) in
     let g = good (l .before) in
-    there (e .args .map) (shadows e) (g .0) (g .1) (e .args .from .0) (k .locate2 .result) (k .locate2 .ensures)
+    there (player (e .args .map)) (shadows e) (g .0) (g .1) (e .args .from .0) (k .locate2 .result) (k .locate2 .ensures)
 
 copy-refusal-requires : tie.Need-copy-refusal-requires
 copy-refusal-requires c κs = search needs

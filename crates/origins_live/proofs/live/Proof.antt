@@ -3,6 +3,7 @@ use mathlib.Core.Path.{_≡_, sym, _∙_}
 use mathlib.Core.Bool.{true}
 use native.Mathlib.Omega.{arith}
 use denote.Ref.{now}
+use Rattle.map.specs.FormMap.{player}
 use Rattle.map.specs.Map.{goodMap}
 use Rattle.shadows.specs.Shadows.{Shadows, lengthsFit}
 use Rattle.monitor_read_laws.proofs.AskingLaws.{in-area, there}
@@ -32,7 +33,7 @@ abbrev state : tie.Start → State
 state c = record { shadows = shadows c; cells = cells c; counter = 0 }
 
 good : (c : tie.Else1)
-    → (goodMap (entry (c .before) .args .map) ≡ true) × (lengthsFit (entry (c .before) .args .map) (shadows (entry (c .before))) ≡ true)
+    → (goodMap (player (entry (c .before) .args .map)) ≡ true) × (lengthsFit (player (entry (c .before) .args .map)) (shadows (entry (c .before))) ≡ true)
     × (cellsFit (entry (c .before) .args .map) (cells (entry (c .before))) ≡ true)
 unfolding lengthsFit cellsFit
 good c = early-good (entry (c .before) .args .map) (state (entry (c .before))) (sym (c .if1 .left) ∙ c .before .checked .ensures)
@@ -102,7 +103,7 @@ reading-requires c κs =
     let l = c .before .before in
     let e = entry (l .before .before) in
     let g = good (l .before) in
-    there (e .args .map) (shadows e) (g .0) (g .1) (e .args .cell .0) (l .locate .result) (l .locate .ensures)
+    there (player (e .args .map)) (shadows e) (g .0) (g .1) (e .args .cell .0) (l .locate .result) (l .locate .ensures)
 
 reading-requires-2 : tie.Need-reading-requires-2
 reading-requires-2 c κs =
@@ -110,7 +111,7 @@ reading-requires-2 c κs =
     let l = k .before in
     let e = entry (l .before .before) in
     let g = good (l .before) in
-    there (e .args .map) (shadows e) (g .0) (g .1) (e .args .a .0) (k .locate2 .result) (k .locate2 .ensures)
+    there (player (e .args .map)) (shadows e) (g .0) (g .1) (e .args .a .0) (k .locate2 .result) (k .locate2 .ensures)
 
 point-refusal-requires : tie.Need-point-refusal-requires
 point-refusal-requires c κs = search needs

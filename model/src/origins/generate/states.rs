@@ -25,7 +25,7 @@ pub fn damaged(random: &mut Random, map: Map) -> (State, OriginsCall) {
     }
     let mut state = list.state();
     for _ in 0..random.below(4) {
-        shadows::change(random, &mut state.shadows);
+        shadows::change(random, map.form, &mut state.shadows);
     }
     for _ in 0..random.below(8) {
         change_cell(random, &mut state);

@@ -1,6 +1,6 @@
 -- `heap_audit::walk::turn` meets its contract. Assumes nothing.
 use denote.Ref.{now}
-use Rattle.heap_audit.specs.Turn.{Stands}
+use Rattle.heap_audit_laws.specs.Turn.{Stands}
 use borrow.Author.Needs.{needs}
 use Rattle.heap_audit.proofs.walk.turn.Statement.{statement}
 use Rattle.heap_audit.proofs.walk.turn.Tie as tie
@@ -21,7 +21,7 @@ number-at-requires-2 : tie.Need-number-at-requires-2
 number-at-requires-2 c κs = search needs
 
 stands : (c : tie.After-number-at2)
-    → let a = c .before .before .before .args in Stands (now (a .heap)) (a .s) (a .w) (c .before .number-at .result) (c .number-at2 .result)
+    → let a = c .before .before .before .args in Stands 4 8 (now (a .heap)) (a .s) (a .w) (c .before .number-at .result) (c .number-at2 .result)
 stands c =
     record {
       inside = c .before .before .before .pre .0;

@@ -1,8 +1,6 @@
--- The end fits, since the map is good; each arm is the definition's own. Assumes nothing.
+-- The end fits, by what is required; each arm is the definition's own. Assumes nothing.
 use borrow.Author.Needs.{needs}
-use native.Mathlib.Omega.{arith}
 use Rattle.map.specs.Map.{endOf}
-use Rattle.map.proofs.MapLaws.{good-true}
 use Rattle.map.proofs.Map.end_of.Statement.{statement}
 use Rattle.map.proofs.Map.end_of.Tie as tie
 
@@ -10,13 +8,13 @@ enum-told : tie.Need-enum-told
 enum-told c = search needs
 
 add-t4 : tie.Need-add-t4
-add-t4 c = omega (arith, good-true _ (c .before .before .before .pre))
+add-t4 c = search needs
 
 enum-told-2 : tie.Need-enum-told-2
 enum-told-2 c = search needs
 
 add-t5 : tie.Need-add-t5
-add-t5 c = omega (arith, good-true _ (c .before .before .before .pre))
+add-t5 c = search needs
 
 enum-told-3 : tie.Need-enum-told-3
 enum-told-3 c = search needs

@@ -16,6 +16,9 @@ cast-s c = search needs
 cast-k : tie.Need-cast-k
 cast-k c = search needs
 
+in-segments-requires : tie.Need-in-segments-requires
+in-segments-requires c κs = search needs
+
 add-heap : tie.Need-add-heap
 add-heap c = search needs
 
@@ -30,9 +33,19 @@ add-apart-2 c = search needs
 
 returns : tie.Need-returns
 unfolding goodMap goodArea apart
-returns c = search needs
+returns c = rw (c .in-segments .ensures)
 
 pub good-spec : {M : Type 1} → statement M
 good-spec =
     tie.close
-    (tie.spec cast-h cast-n cast-s cast-k add-heap add-stack add-apart add-apart-2 returns)
+    (tie.spec
+    cast-h
+    cast-n
+    cast-s
+    cast-k
+    in-segments-requires
+    add-heap
+    add-stack
+    add-apart
+    add-apart-2
+    returns)

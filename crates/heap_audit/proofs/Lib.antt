@@ -1,3 +1,0 @@
-pub mod MatchLaws
-pub mod WalkLaws
-pub mod TurnLaws

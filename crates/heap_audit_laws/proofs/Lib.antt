@@ -1,0 +1,4 @@
+pub mod MatchLaws
+pub mod BitsLaws
+pub mod WalkLaws
+pub mod TurnLaws

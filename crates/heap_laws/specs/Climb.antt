@@ -1,0 +1,8 @@
+-- Free segments after a position, as a search for the next block passes them. Assumes nothing.
+use mathlib.Core.Path.{_≡_}
+use Prim.Native.Nat.{ℕ, _+_, _*_, _/_, _≤_, _<_}
+use Rattle.number.specs.Little.{word}
+
+-- the segments after that of position p, to before r, have the number 0; f the bytes
+abbrev pub FreeSegments : (W G size : ℕ) → (f : ℕ → ℕ) → (p r : ℕ) → Type 0
+FreeSegments W G size f p r = (p / G * G + G ≤ r) × (r ≤ size) × ((x : ℕ) → p / G * G + G ≤ x → x < r → word f (x / G * G) W ≡ 0)
