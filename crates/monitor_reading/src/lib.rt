@@ -9,15 +9,38 @@ use map::Form;
 use monitor_base::Located;
 use plain::Reading;
 
-// By positions: in the heap, in the stack, or nothing outside both.
+// The player's, by positions: in the heap, in the stack, or nothing outside both.
+fn player(heap: &[u8], primary: &[u8], secondary: &[u8], l: Located) -> Reading
+    requires { ⌜ There 8 l (now heap) (now primary) (now secondary) ⌝ }
+    ensures { λ r. ⌜ readingOf r ≡ readingAt 4 8 l (now (heap .entry)) (now (primary .entry)) (now (secondary .entry)) ⌝ }
+{
+    match l {
+        Located::Heap(p) => heap_read::read(heap, p),
+        Located::Stack(p) => stack_read::read(primary, secondary, p),
+        Located::Outside => Reading::Nothing,
+    }
+}
+
+// The desk's.
+fn desk(heap: &[u8], primary: &[u8], secondary: &[u8], l: Located) -> Reading
+    requires { ⌜ There 16 l (now heap) (now primary) (now secondary) ⌝ }
+    ensures { λ r. ⌜ readingOf r ≡ readingAt 8 16 l (now (heap .entry)) (now (primary .entry)) (now (secondary .entry)) ⌝ }
+{
+    match l {
+        Located::Heap(p) => desk_read::read(heap, p),
+        Located::Stack(p) => stack_read::read(primary, secondary, p),
+        Located::Outside => Reading::Nothing,
+    }
+}
+
+// The form is asked for first: a choice inside the heap's arm would keep the compiler from telling readings apart where they are taken.
 pub fn reading(form: Form, heap: &[u8], primary: &[u8], secondary: &[u8], l: Located) -> Reading
     requires { ⌜ There (segmentSize form) l (now heap) (now primary) (now secondary) ⌝ }
     ensures { λ r. ⌜ readingOf r ≡ readingAt (numberSize form) (segmentSize form) l (now (heap .entry)) (now (primary .entry)) (now (secondary .entry)) ⌝ }
 {
-    match l {
-        Located::Heap(p) => heap_forms::read(form, heap, p),
-        Located::Stack(p) => stack_read::read(primary, secondary, p),
-        Located::Outside => Reading::Nothing,
+    match form {
+        Form::Player => player(heap, primary, secondary, l),
+        Form::Desk => desk(heap, primary, secondary, l),
     }
 }
 
