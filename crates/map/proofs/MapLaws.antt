@@ -1,11 +1,12 @@
 -- What a good map and the area of an address say in facts, and back. Assumes nothing.
-use mathlib.Core.Path.{_≡_, refl}
-use mathlib.Core.Bool.{Bool, true, false, _||_}
-use Prim.Native.Nat.{ℕ, zero, suc, _+_, _*_, _%_, _^_, _≤_, _<_}
+use mathlib.Core.Path.{_≡_, refl, sym, _∙_}
+use mathlib.Core.Bool.{Bool, true, false, _&&_, _||_}
+use Prim.Native.Nat.{ℕ, zero, suc, _+_, _-_, _*_, _/_, _%_, _^_, _≤_, _<_}
+use native.Mathlib.Nat.{div-add-mod', div-eq-of-lt}
 use native.Mathlib.Omega.{arith, by-contra}
-use lib.Dec.{leb}
+use lib.Dec.{leb, eqb}
 use borrow.Author.Tests.{le-leb, eq-eqb, ltb-true, leb-true, leb-false, eqb-true}
-use Rattle.number.proofs.TestLaws.{and-true, or-case, in-true, in-below}
+use Rattle.number.proofs.TestLaws.{and-true, or-case, in-true, in-below, same-test, false-of, not-both}
 use Rattle.map.specs.Map.{goodArea, apart, goodMap, within, areaOf}
 use Rattle.map.specs.FormMap.{FormMap, areas}
 use Rattle.map.specs.declared.Area.the-variants.{Outside}
@@ -55,6 +56,19 @@ within-true start size a e =
 
 pub true-within : (start size a : ℕ) → start ≤ a → a < start + size → within start size a ≡ true
 true-within start size a = in-true start (start + size) a
+
+-- r is how far an address lies above an area's start, and more than any size where it lies below
+abbrev pub Above : (start a r : ℕ) → Type 0
+Above start a r = (start ≤ a → r ≡ a - start) × (a < start → 4294967296 ≤ r)
+
+pub above-within : (start size a r : ℕ) → size < 4294967296 → Above start a r → r < size → (within start size a ≡ true) × (r ≡ a - start)
+above-within start size a r b (f, g) l =
+    let le : start ≤ a = by-contra _ _ (λ x. omega (arith, g (omega (arith, x)))) in
+    (true-within start size a le (omega (arith, f le)), f le)
+
+pub above-outside : (start size a r : ℕ) → Above start a r → size ≤ r → within start size a ≡ false
+above-outside start size a r (f, g) l =
+    false-of (within start size a) (λ e. let h = within-true start size a e in omega (arith, f (h .0), h .1))
 
 -- ---- one area's rules, and two areas
 
@@ -129,6 +143,126 @@ true-good m g =
       true-area _ _ _ _ (g .stackFrom, g .stackStart8, g .stackSize8, g .stackLeast, g .stackMost, g .stackEnd),
       true-apart _ _ _ _ (g .noShare),
     )
+
+-- ---- a good map as the code tests it
+
+-- starts and sizes are whole, and the sizes within their limits
+abbrev pub whole : FormMap → Bool
+whole m =
+    ((eqb (m .«heap_start» % m .segment) 0 && eqb (m .«heap_size» % m .segment) 0 && leb (m .segment + m .segment) (m .«heap_size»)) && leb (m .«heap_size») 131072)
+    && (eqb (m .«stack_start» % 8) 0 && eqb (m .«stack_size» % 8) 0 && leb 16 (m .«stack_size») && leb (m .«stack_size») 65536)
+
+-- an area that does not begin at 0 ends at or below another's start
+abbrev pub lower : (start size other : ℕ) → Bool
+lower start size other = leb 1 start && leb (start + size) other
+
+module _ (m : FormMap) where
+  abbrev h : ℕ
+  h = m .«heap_start»
+
+  abbrev n : ℕ
+  n = m .«heap_size»
+
+  abbrev s : ℕ
+  s = m .«stack_start»
+
+  abbrev k : ℕ
+  k = m .«stack_size»
+
+  pub good-whole : goodMap m ≡ true → whole m ≡ true
+  good-whole e =
+      let g = good-true m e in
+      rw (
+        eq-eqb _ _ (g .heapStartWhole),
+        eq-eqb _ _ (g .heapSizeWhole),
+        le-leb _ _ (g .heapLeast),
+        le-leb _ _ (g .heapMost),
+        eq-eqb _ _ (g .stackStart8),
+        eq-eqb _ _ (g .stackSize8),
+        le-leb _ _ (g .stackLeast),
+        le-leb _ _ (g .stackMost),
+      )
+
+  whole-facts : whole m ≡ true → (h % m .segment ≡ 0) × (n % m .segment ≡ 0) × (m .segment + m .segment ≤ n) × (n ≤ 131072)
+      × (s % 8 ≡ 0) × (k % 8 ≡ 0) × (16 ≤ k) × (k ≤ 65536)
+  whole-facts e =
+      let a = and-true _ _ e in
+      let b = and-true _ _ (a .0) in
+      let c = and-true _ _ (b .0) in
+      let d = and-true _ _ (c .0) in
+      let f = and-true _ _ (a .1) in
+      let g = and-true _ _ (f .0) in
+      let i = and-true _ _ (g .0) in (
+        eqb-true _ _ (d .0),
+        eqb-true _ _ (d .1),
+        leb-true _ _ (c .1),
+        leb-true _ _ (b .1),
+        eqb-true _ _ (i .0),
+        eqb-true _ _ (i .1),
+        leb-true _ _ (g .1),
+        leb-true _ _ (f .1),
+      )
+
+  -- a whole start that is not 0 is a segment at least
+  from-one : h % m .segment ≡ 0 → 1 ≤ h → m .segment ≤ h
+  from-one z o =
+      by-contra _ _
+      (λ x. let e : h / m .segment ≡ 0 = div-eq-of-lt x in
+      let d = div-add-mod' h (m .segment) in
+      let q : h ≡ 0 = sym d ∙ rw (e, z) (omega arith) in
+      omega (arith, q))
+
+  -- the map of whole areas is good if they lie apart and end in the address space
+  good-of : whole m ≡ true → 1 ≤ h → 1 ≤ s → h + n ≤ 4294967295 → s + k ≤ 4294967295 → (h < s + k → s < h + n → ⊥) → goodMap m ≡ true
+  good-of e a b c d f =
+      let w = whole-facts e in
+      true-good m
+      record {
+        heapFrom = from-one (w .0) a;
+        heapStartWhole = w .0;
+        heapSizeWhole = w .1;
+        heapLeast = w .2;
+        heapMost = w .3;
+        heapEnd = c;
+        stackFrom = let z = w .4 in omega arith;
+        stackStart8 = w .4;
+        stackSize8 = w .5;
+        stackLeast = w .6;
+        stackMost = w .7;
+        stackEnd = d;
+        noShare = f;
+      }
+
+  lower-facts : (x y z : ℕ) → lower x y z ≡ true → (1 ≤ x) × (x + y ≤ z)
+  lower-facts x y z e = let a = and-true _ _ e in (leb-true _ _ (a .0), leb-true _ _ (a .1))
+
+  -- the heap below the stack
+  pub heap-lower : whole m ≡ true → s < 4294967296 → lower h n s ≡ true → leb (s + k) 4294967295 ≡ goodMap m
+  heap-lower e u l =
+      let w = whole-facts e in
+      let f = lower-facts h n s l in
+      same-test _ _
+      (λ t. let c = leb-true (s + k) 4294967295 t in
+      good-of e (f .0) (omega (arith, f .0, f .1)) (omega (arith, f .1)) c (λ x y. omega (arith, f .1)))
+      (λ t. le-leb _ _ (good-true m t .stackEnd))
+
+  -- the stack below the heap
+  pub stack-lower : whole m ≡ true → h < 4294967296 → lower s k h ≡ true → leb (h + n) 4294967295 ≡ goodMap m
+  stack-lower e u l =
+      let f = lower-facts s k h l in
+      same-test _ _
+      (λ t. let c = leb-true (h + n) 4294967295 t in
+      good-of e (omega (arith, f .0, f .1)) (f .0) c (omega (arith, f .1)) (λ x y. omega (arith, f .1)))
+      (λ t. le-leb _ _ (good-true m t .heapEnd))
+
+  -- neither
+  pub none-lower : lower h n s ≡ false → lower s k h ≡ false → goodMap m ≡ false
+  none-lower a b =
+      false-of (goodMap m)
+      (λ t. let g = good-true m t in
+      g .noShare
+      (by-contra _ _ (λ x. not-both _ (rw (le-leb 1 s (omega (arith, g .stackFrom)), le-leb (s + k) h (omega (arith, x)))) b))
+      (by-contra _ _ (λ x. not-both _ (rw (le-leb 1 h (omega (arith, g .heapFrom, segment-least m)), le-leb (h + n) s (omega (arith, x)))) a)))
 
 -- address 0 lies in no area
 pub zero-outside : (m : FormMap) → goodMap m ≡ true → areaOf (areas m) 0 ≡ Outside

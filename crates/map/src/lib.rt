@@ -1,8 +1,9 @@
 // The map of the areas, and the conversion between addresses and shadow positions.
 ghost use mathlib.Core.Path.{_≡_};
 ghost use Prim.Native.Nat.{_+_, _-_, _%_, _≤_, _<_};
-ghost use lib.Dec.{eqb};
-ghost use Rattle.map.specs.Map.{inUnits, goodMap, within, areaOf, startOf, endOf};
+ghost use mathlib.Core.Bool.{_&&_};
+ghost use lib.Dec.{eqb, leb};
+ghost use Rattle.map.specs.Map.{goodMap, startOf, endOf};
 ghost use Rattle.map.specs.FormMap.{segmentSize, under};
 
 pub struct Address(pub u32);
@@ -58,6 +59,14 @@ pub fn to_position(a: Address, start: Address) -> Position
     Position((a.0 - start.0) as usize)
 }
 
+// How far an address lies above the start of an area: its position there, if it is below the area's size. Of one below the start the
+// difference wraps in 64 bits, to above all sizes: so one comparison tells where it lies, under every map.
+pub fn above(a: Address, start: u32) -> u64
+    ensures { λ r. ⌜ (start ≤ a .0 → r ≡ a .0 - start) × (a .0 < start → 4294967296 ≤ r) ⌝ }
+{
+    std::num::wrapping_sub_u64(a.0 as u64, start as u64)
+}
+
 // The address of a shadow position of the area that begins at start.
 pub fn to_address(p: Position, start: Address) -> Address
     requires { ⌜ start .0 + p .0 < 4294967296 ⌝ }
@@ -66,29 +75,27 @@ pub fn to_address(p: Position, start: Address) -> Address
     Address(start.0 + p.0 as u32)
 }
 
-// By the difference, which is the position: no sum that could wrap, so this holds for every map.
-fn lies_within(start: u32, size: u32, a: Address) -> bool
-    ensures { λ r. ⌜ r ≡ within start size (a .0) ⌝ }
-{
-    let at = a.0;
-    if at < start {
-        return false;
-    }
-    at - start < size
-}
-
-// Whether the heap's start and size are whole segments of the form, two at least and not from 0 on.
+// Whether the heap's start and size are whole segments of the form, two at least.
 fn in_segments(form: Form, h: u64, n: u64) -> bool
-    ensures { λ r. ⌜ r ≡ inUnits (segmentSize form) h n ⌝ }
+    ensures { λ r. ⌜ r ≡ (eqb (h % segmentSize form) 0 && eqb (n % segmentSize form) 0 && leb (segmentSize form + segmentSize form) n) ⌝ }
 {
     match form {
-        Form::Player => (8 <= h) & (h % 8 == 0) & (n % 8 == 0) & (16 <= n),
-        Form::Desk => (16 <= h) & (h % 16 == 0) & (n % 16 == 0) & (32 <= n),
+        Form::Player => (h % 8 == 0) & (n % 8 == 0) & (16 <= n),
+        Form::Desk => (h % 16 == 0) & (n % 16 == 0) & (32 <= n),
     }
+}
+
+// Whether an area that does not begin at 0 ends at or below another's start: one below 0 wraps to above all starts.
+fn below(start: u32, size: u64, other: u64) -> bool
+    requires { ⌜ (size < 4294967296) × (other < 4294967296) ⌝ }
+    ensures { λ r. ⌜ r ≡ (leb 1 start && leb (start + size) other) ⌝ }
+{
+    std::num::wrapping_sub_u32(start, 1) as u64 + size < other
 }
 
 impl Map {
-    // The sums are taken in 64 bits, where they cannot wrap.
+    // The sums are taken in 64 bits, where they cannot wrap. Of two areas that lie apart the lower has its end below the other's start: only that
+    // it does not begin at 0 is left to ask, and of the upper only where it ends.
     pub fn good(self, form: Form) -> bool
         ensures { λ r. ⌜ r ≡ goodMap (under form self) ⌝ }
     {
@@ -96,28 +103,18 @@ impl Map {
         let n = self.heap_size as u64;
         let s = self.stack_start as u64;
         let k = self.stack_size as u64;
-        let heap = in_segments(form, h, n) & (n <= 131072) & (h + n <= 4294967295);
-        let stack = (8 <= s)
-            & (s % 8 == 0)
-            & (k % 8 == 0)
-            & (16 <= k)
-            & (k <= 65536)
-            & (s + k <= 4294967295);
-        let apart = (h + n <= s) | (s + k <= h);
-        heap & stack & apart
-    }
-
-    // The area that an address lies in.
-    pub fn area_of(self, a: Address) -> Area
-        ensures { λ r. ⌜ r ≡ areaOf self (a .0) ⌝ }
-    {
-        if lies_within(self.heap_start, self.heap_size, a) {
-            Area::Heap
-        } else if lies_within(self.stack_start, self.stack_size, a) {
-            Area::Stack
-        } else {
-            Area::Outside
+        let heap = in_segments(form, h, n) & (n <= 131072);
+        let stack = (s % 8 == 0) & (k % 8 == 0) & (16 <= k) & (k <= 65536);
+        if !(heap & stack) {
+            return false;
         }
+        if below(self.heap_start, n, s) {
+            return s + k <= 4294967295;
+        }
+        if below(self.stack_start, k, h) {
+            return h + n <= 4294967295;
+        }
+        false
     }
 
     // Where an area begins: the origin of its positions.

@@ -9,16 +9,19 @@ use map::Area;
 use map::Map;
 use map::Position;
 
+// One difference and one comparison for each area.
 pub fn locate(map: Map, a: Address) -> Located
     ensures { λ r. ⌜ Lies map (a .0) r ⌝ }
 {
-    let area = map.area_of(a);
-    let start = map.start_of(area);
-    match area {
-        Area::Heap => Located::Heap(map::to_position(a, start)),
-        Area::Stack => Located::Stack(map::to_position(a, start)),
-        Area::Outside => Located::Outside,
+    let p = map::above(a, map.heap_start);
+    if p < map.heap_size as u64 {
+        return Located::Heap(Position(p as usize));
     }
+    let q = map::above(a, map.stack_start);
+    if q < map.stack_size as u64 {
+        return Located::Stack(Position(q as usize));
+    }
+    Located::Outside
 }
 
 // The position of an area's end.
