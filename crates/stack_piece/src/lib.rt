@@ -22,10 +22,15 @@ pub fn fit(size: usize, p: Position, len: u32, i: u32, bits: u8) -> Reading
     Reading::Block(Position(at - offset), len, i, bits)
 }
 
-// Length len and piece offset o cannot stand in a piece that has a byte j. In u64, where no sum wraps.
-pub fn bad_piece(len: u64, o: u64, j: u64) -> bool
-    requires { ⌜ (o < 4294967296) × (j < 15) ⌝ }
+// Length len and piece offset o cannot stand in a piece that has a byte j. Where a difference wraps, a test before it has failed.
+pub fn bad_piece(len: u32, o: u32, j: u32) -> bool
+    requires { ⌜ j < 15 ⌝ }
     ensures { λ r. ⌜ r ≡ badPiece len o j ⌝ }
 {
-    (len < 9) | (o % 8 != 0) | (len < o + 8) | ((7 < j) & (o + 16 <= len)) | (len <= o + j)
+    let left = std::num::wrapping_sub_u32(len, o);
+    (len < 9)
+        | (o % 8 != 0)
+        | (std::num::wrapping_sub_u32(len, 8) < o)
+        | ((7 < j) & (16 <= left))
+        | (left <= j)
 }

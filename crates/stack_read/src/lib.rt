@@ -1,68 +1,84 @@
 // The reading of a position of the stack.
 use map::Position;
 use plain::Reading;
-use stack_table::short_length;
+use stack_table::short_after;
 use stack_table::short_offset;
 ghost use mathlib.Core.Path.{_≡_};
-ghost use Prim.Native.Nat.{_<_, _≤_};
+ghost use Prim.Native.Nat.{ℕ, _<_, _≤_};
 ghost use lib.ListN.{length};
 ghost use Rattle.number.specs.Parts.{at};
 ghost use Rattle.plain.specs.Answers.{readingOf};
-ghost use Rattle.stack_layout.specs.Reading.{stackReading, longReading, codeReading};
+ghost use Rattle.stack_layout.specs.Reading.{stackReading, longReading, codeReading, fitted};
 
-// Position p is j places into a piece. That the eight secondary bytes lie in the area is decided before they are fetched.
-fn read_long(secondary: &[u8], p: Position, j: u8, bits: u8) -> Reading
+// What a code tells of a byte: its block's length, and its offset there.
+struct Spot {
+    len: u32,
+    i: u32,
+}
+
+// No area holds a block of this length: it stands for damage.
+fn none() -> Spot
+    ensures { λ r. ⌜ (r .len ≡ 4294967295) × (r .i ≡ 0) ⌝ }
+{
+    Spot {
+        len: 0xFFFFFFFF,
+        i: 0,
+    }
+}
+
+// Position p is j places into a piece. That the eight secondary bytes lie in the area is decided before they are fetched: a piece that would
+// begin below 0 begins, by the wrap, above every end.
+fn told_long(secondary: &[u8], p: Position, j: u32) -> Spot
     requires { ⌜ (p .0 < length (now secondary)) × (length (now secondary) ≤ 65536) × (j < 15) ⌝ }
-    ensures { λ r. ⌜ readingOf r ≡ longReading (length (now (secondary .entry))) (at (now (secondary .entry))) (p .0) j bits ⌝ }
+    ensures { λ r. ⌜ ((m : ℕ) → fitted (length (now (secondary .entry))) (p .0) (r .len) (r .i) m
+        ≡ longReading (length (now (secondary .entry))) (at (now (secondary .entry))) (p .0) j m) ⌝ }
 {
     let Position(q) = p;
-    let size = secondary.len();
-    let into = j as usize;
-    if q < into {
-        return Reading::Damaged;
+    let t = std::num::wrapping_sub_u32(q as u32, j) as usize;
+    if secondary.len() < t + 8 {
+        return none();
     }
-    if size + into < q + 8 {
-        return Reading::Damaged;
-    }
-    let t = q - into;
     let len = number_words::number_at(secondary, t);
     let o = number_words::number_at(secondary, t + 4);
-    if stack_piece::bad_piece(len as u64, o as u64, j as u64) {
-        return Reading::Damaged;
+    if stack_piece::bad_piece(len, o, j) {
+        return none();
     }
-    stack_piece::fit(size, p, len, o + (j as u32), bits)
+    Spot { len, i: o + j }
 }
 
-// Position p has this code and these low bits; code 0 stands for no block, with none of them set.
-fn read_code(secondary: &[u8], p: Position, code: u8, bits: u8) -> Reading
+// Position p has this code, and low bits of which one is set where the code is 0.
+fn told(secondary: &[u8], p: Position, code: u8) -> Spot
     requires { ⌜ (p .0 < length (now secondary)) × (length (now secondary) ≤ 65536) ⌝ }
-    ensures { λ r. ⌜ readingOf r ≡ codeReading (length (now (secondary .entry))) (at (now (secondary .entry))) (p .0) code bits ⌝ }
+    ensures { λ r. ⌜ ((m : ℕ) → (code ≡ 0 → m ≡ 0 → ⊥) → fitted (length (now (secondary .entry))) (p .0) (r .len) (r .i) m
+        ≡ codeReading (length (now (secondary .entry))) (at (now (secondary .entry))) (p .0) code m) ⌝ }
 {
-    if code == 0 {
-        if bits == 0 {
-            return Reading::Nothing;
-        }
-        return Reading::Damaged;
-    }
-    if code <= 36 {
-        let len = short_length(code);
-        return stack_piece::fit(secondary.len(), p, len, short_offset(code, len), bits);
-    }
     if code < 48 {
-        return Reading::Damaged;
+        if (code == 0) | (36 < code) {
+            return none();
+        }
+        let i = short_offset(code);
+        return Spot {
+            len: i + short_after(code) + 1,
+            i,
+        };
     }
     if 62 < code {
-        return Reading::Damaged;
+        return none();
     }
-    read_long(secondary, p, code - 48, bits)
+    told_long(secondary, p, number_words::wide(code) - 48)
 }
 
-// The reading of a position: the code is taken by shift, the two low bits by mask.
+// The reading of a position: the code is taken by shift, the two low bits by mask. Small enough for the compiler to take it into each caller,
+// which then keeps it in registers: whether the block fits is asked once, for both kinds.
 pub fn read(primary: &[u8], secondary: &[u8], p: Position) -> Reading
     requires { ⌜ (p .0 < length (now primary)) × (length (now primary) ≡ length (now secondary)) × (length (now primary) ≤ 65536) ⌝ }
     ensures { λ r. ⌜ readingOf r ≡ stackReading (length (now (primary .entry))) (at (now (primary .entry))) (at (now (secondary .entry))) (p .0) ⌝ }
 {
     let q = p.0;
     let byte = primary[q];
-    read_code(secondary, p, byte >> 2, byte & 3)
+    if byte == 0 {
+        return Reading::Nothing;
+    }
+    let Spot { len, i } = told(secondary, p, byte >> 2);
+    stack_piece::fit(secondary.len(), p, len, i, byte & 3)
 }

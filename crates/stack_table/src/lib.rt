@@ -1,42 +1,28 @@
 // The codes of short blocks: how many there are, and what one tells.
 ghost use mathlib.Core.Path.{_≡_};
-ghost use Prim.Native.Nat.{_-_, _*_, _/_, _≤_, _%_, _^_, _<_};
+ghost use Prim.Native.Nat.{_+_, _-_, _*_, _/_, _≤_, _<_};
 ghost use Rattle.stack_layout.specs.Code.{shortLength, shortOffset};
 
-// The lengths of codes 0 to 15, 16 to 31 and 32 to 36, four bits each, the lowest first. An array would be built anew at each use.
-const TO_15: u64 = 0x5555544443332210;
+// Bit c is set where code c is of a block's first byte.
+const FIRST: u64 = 0x20410896;
 
-const TO_31: u64 = 0x8887777777666666;
+// Bit c is set where code c is of a block's last byte.
+const LAST: u64 = 0x101020844A;
 
-const TO_36: u64 = 0x88888;
-
-// The constant that has a code's length.
-fn lengths(code: u8) -> u64
-    requires { ⌜ code < 37 ⌝ }
-    ensures { λ r. ⌜ r / 2 ^ (4 * (code % 16)) % 16 ≡ shortLength code ⌝ }
-{
-    if code < 16 {
-        return TO_15;
-    }
-    if code < 32 {
-        return TO_31;
-    }
-    TO_36
-}
-
-pub fn short_length(code: u8) -> u32
-    requires { ⌜ code < 37 ⌝ }
-    ensures { λ r. ⌜ r ≡ shortLength code ⌝ }
-{
-    ((lengths(code) >> (4 * (code % 16))) % 16) as u32
-}
-
-// The offset of a code among those of its length.
-pub fn short_offset(code: u8, length: u32) -> u32
-    requires { ⌜ (1 ≤ code) × (code < 37) × (length ≡ shortLength code) ⌝ }
+// The offset of a code: how far below it the first code of its length lies.
+pub fn short_offset(code: u8) -> u32
+    requires { ⌜ (1 ≤ code) × (code < 37) ⌝ }
     ensures { λ r. ⌜ r ≡ shortOffset code ⌝ }
 {
-    number_words::wide(code) - codes_below(length) - 1
+    u64::leading_zeros(FIRST << (63 - code))
+}
+
+// The bytes from that of a code to its block's last.
+pub fn short_after(code: u8) -> u32
+    requires { ⌜ (1 ≤ code) × (code < 37) ⌝ }
+    ensures { λ r. ⌜ shortOffset code + r + 1 ≡ shortLength code ⌝ }
+{
+    u64::trailing_zeros(LAST >> code)
 }
 
 // How many codes the blocks shorter than a short one have.
