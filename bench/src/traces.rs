@@ -15,16 +15,17 @@ use crate::state::State;
 pub type Trace = (&'static str, &'static [u8]);
 
 #[rustfmt::skip]
-pub const TRACES: [Trace; 2] = [
+pub const TRACES: [Trace; 3] = [
     ("sha1", include_bytes!("../../model/tests/data/sha1.calls")),
     ("sorts", include_bytes!("../../model/tests/data/sorts.calls")),
+    ("json", include_bytes!("../../model/tests/data/json.calls")),
 ];
 
 /// A run: the state that it begins in, and its calls.
 pub type Run = (State, Vec<Call>);
 
-/// A trace's run, but for the audit, which no peer of E-ACSL's has. The traces are older than remove: where they free a stack address, that is
-/// the remove of now.
+/// A trace's run, but for the audit, which no peer of E-ACSL's has. Two traces are older than remove: where they free a stack address, that
+/// is the remove of now.
 pub fn read((title, file): Trace) -> Run {
     let converted = with_removals(file);
     let mut file = &converted[..];

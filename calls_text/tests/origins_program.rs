@@ -20,6 +20,7 @@ use model::origins::list::OriginsList;
 use model::origins::notation::{example as stated, Example};
 use model::program::{encode, encode_map, LARGEST_HEAP, LARGEST_STACK};
 use model::random::Random;
+use model::recorded::RUNS;
 
 const FORM: Form = Form::Origins;
 
@@ -64,7 +65,7 @@ fn plain_examples() {
     for name in ["worked", "statics", "each-kind", "literals", "remove"] {
         as_the_model(FORM, name, &example(name));
     }
-    for name in ["sha1", "sorts"] {
+    for name in RUNS {
         let as_recorded = bytes(&format!("model/tests/data/{name}.calls"));
         for calls in [as_recorded, recorded(name).0] {
             let output = from_file(FORM, &format!("{name}-origins.calls"), &calls);

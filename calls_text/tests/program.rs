@@ -8,6 +8,7 @@ use common::{
     no_other_length, piped, recorded,
 };
 use model::notation::Example;
+use model::recorded::RUNS;
 
 const FORM: Form = Form::Plain;
 
@@ -21,7 +22,7 @@ fn stored_examples() {
 /// With remove for free of stack addresses the lines are those that were recorded; as recorded, those of the model.
 #[test]
 fn traces() {
-    for name in ["sha1", "sorts"] {
+    for name in RUNS {
         let (calls, expected) = recorded(name);
         assert_lines(
             name,

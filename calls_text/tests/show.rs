@@ -7,6 +7,7 @@ use calls_text::refusals::refusal;
 use calls_text::show::show;
 use calls_text::text::Parsed;
 use common::{bytes, examples, meaning, recorded, shown};
+use model::recorded::RUNS;
 
 #[test]
 fn accepted_lines() {
@@ -177,7 +178,7 @@ fn every_stored_output_has_meanings() {
             has_meanings(form, &name, file, lines);
         }
     }
-    for name in ["sha1", "sorts"] {
+    for name in RUNS {
         let (file, lines) = recorded(name);
         has_meanings(Form::Plain, name, file, lines);
     }

@@ -10,6 +10,7 @@ use model::generate::file::file;
 use model::origins::generate::file::file as origins_file;
 use model::program::encode;
 use model::random::Random;
+use model::recorded::RUNS;
 
 fn errors(text: &str) -> String {
     parse("x.txt", text).expect_err("bad text").join("\n")
@@ -199,7 +200,7 @@ fn every_file_has_a_text() {
                 round_trip(form, &file[..end]);
             }
         }
-        for name in ["sha1", "sorts"] {
+        for name in RUNS {
             round_trip(form, &bytes(&format!("model/tests/data/{name}.calls")));
         }
         for seed in 0..300 {

@@ -5,7 +5,7 @@ use model::call::{Answer, NO_FIELDS};
 use model::image::Shadows;
 use model::map::Map;
 use model::program::{decode, Record};
-use model::recorded::with_removals;
+use model::recorded::{with_removals, RUNS};
 
 /// A file of the model's data.
 fn data(name: &str) -> Vec<u8> {
@@ -29,7 +29,7 @@ fn stated_samples() {
 /// The recorded runs, with remove for free of stack addresses: every answer is that of the lines.
 #[test]
 fn recorded_runs() {
-    for name in ["sha1", "sorts"] {
+    for name in RUNS {
         let file = with_removals(&data(&format!("{name}.calls")));
         let lines = text(&format!("{name}.expected"));
         let mut left = &file[..];

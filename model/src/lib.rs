@@ -20,7 +20,7 @@
 //! - [`decode`]: the one list that shadow bytes could be the image of.
 //! - [`bytes`]: all calls on any map and any shadow bytes.
 //! - [`program`]: the calls program, run on a plain list.
-//! - [`recorded`]: runs recorded when free still took stack blocks, as they are now.
+//! - [`recorded`]: the recorded runs; those of when free still took stack blocks, as they are now.
 //! - [`notation`]: the one-line notation of the example files.
 //! - [`samples`]: the samples program, which answers lines of that notation.
 //! - [`origins`]: the form with origins, with its own models and program.

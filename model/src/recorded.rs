@@ -1,12 +1,15 @@
-//! Runs of the plain form that were recorded before S-7, when free took stack
-//! blocks too.
+//! The recorded runs of the plain form, some of them from before S-7, when free
+//! took stack blocks too.
 //!
-//! One rule writes them as they are since: a free of a stack address, kind 3, is
+//! One rule writes those as they are since: a free of a stack address, kind 3, is
 //! a remove, kind 16. Every other record stays, and each line but for its kind.
 
 use crate::call::Call;
 use crate::map::{Area, Map};
 use crate::program::{decode, encode, taken, Record};
+
+/// Their names; the files lie in `tests/data`. The last one has removes already.
+pub const RUNS: [&str; 3] = ["sha1", "sorts", "json"];
 
 /// The calls file with a remove for each free of a stack address.
 pub fn with_removals(input: &[u8]) -> Vec<u8> {

@@ -1,4 +1,4 @@
-//! The two recorded runs, and others in a folder that MODEL_TRACES names. They
+//! The recorded runs, and others in a folder that MODEL_TRACES names. Two of them
 //! were recorded before S-7, and free stack blocks, which is refused since.
 
 mod common;
@@ -14,7 +14,7 @@ use model::map::Area;
 use model::plain::{totals, List, PlainList};
 use model::plain_btree::PlainTree;
 use model::program::{decode, encode, run, run_on, Record};
-use model::recorded::{lines_with_removals, with_removals};
+use model::recorded::{lines_with_removals, with_removals, RUNS};
 
 /// What the list prints, and with it the tree and the bytes.
 fn on_each_model(name: &str, calls: &[u8]) -> Vec<u8> {
@@ -40,7 +40,7 @@ fn own_copy(name: &str) -> (Vec<u8>, Vec<u8>) {
 
 #[test]
 fn own_copies() {
-    for name in ["sha1", "sorts"] {
+    for name in RUNS {
         let (calls, recorded) = own_copy(name);
         check(name, &calls, &recorded);
     }
@@ -67,7 +67,7 @@ fn named_folder() {
 /// Kinds 3 and 16 alone are exchanged, at stack addresses alone.
 #[test]
 fn the_rule_changes_frees_of_stack_addresses_alone() {
-    for (name, removals) in [("sha1", 2450), ("sorts", 2241)] {
+    for (name, removals) in RUNS.into_iter().zip([2450, 2241, 0]) {
         let (calls, recorded) = own_copy(name);
         let converted = with_removals(&calls);
         assert_eq!(converted.len(), calls.len());
@@ -162,8 +162,8 @@ fn because(call: Call, now: &PlainList, then: &PlainList, lines: [&str; 2]) -> B
 /// stays, and each other line that differs follows from that.
 #[test]
 fn as_recorded() {
-    let met = [("sha1", [2450, 2397, 0, 1]), ("sorts", [2241, 2067, 50, 1])];
-    for (name, expected) in met {
+    let met = [[2450, 2397, 0, 1], [2241, 2067, 50, 1], [0; 4]];
+    for (name, expected) in RUNS.into_iter().zip(met) {
         let (calls, recorded) = own_copy(name);
         let lines = String::from_utf8(on_each_model(name, &calls)).expect("lines are text");
         let recorded = String::from_utf8(recorded).expect("lines are text");
