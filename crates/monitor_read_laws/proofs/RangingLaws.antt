@@ -1,5 +1,5 @@
 -- The calls about n bytes, by readings in the areas that the bytes lie in. Assumes nothing.
-use mathlib.Core.Path.{_≡_, refl, sym, _∙_}
+use mathlib.Core.Path.{_≡_, refl, sym, ap, _∙_}
 use mathlib.Core.Bool.{Bool, true, false, _||_}
 use mathlib.Core.Logic.{_≢_}
 use Prim.Native.Nat.{ℕ, _+_, _-_, _≤_, _<_}
@@ -129,6 +129,19 @@ module _ (m : FormMap) (s : Shadows) (ok : goodMap m ≡ true) (fit : lengthsFit
   unfolding validAnswer
   valid-out-out w n b x e y = rw (read-out m s b e .0) y
 
+  -- the bytes belong to their first
+  module _ (w : Bool) (n : ℕ) (r : Reading) (b q : ℕ) (x : Answer) where
+    pub alone-heap : r ≡ H q → areaOf (areas m) b ≡ Heap → q ≡ b - hs → x ≡ validAnswer false n r r → x ≡ validAnswer w n (rd b) (rd b)
+    alone-heap er e z y =
+        valid-heap-heap w n r r b q x q er e z er y ∙ ap (λ v. validAnswer w n v (rd b)) (sym (read-heap m s ok fit b q e z .0))
+
+    pub alone-stack : r ≡ K q → areaOf (areas m) b ≡ Stack → q ≡ b - ss → x ≡ validAnswer w n r r → x ≡ validAnswer w n (rd b) (rd b)
+    alone-stack er e z y =
+        valid-stack-stack w n r r b q x q er e z er y ∙ ap (λ v. validAnswer w n v (rd b)) (sym (read-stack m s ok fit b q e z .0))
+
+  pub alone-out : (w : Bool) (n b : ℕ) (x : Answer) → areaOf (areas m) b ≡ Outside → x ≡ yesNo false → x ≡ validAnswer w n (rd b) (rd b)
+  alone-out w n b x e y = valid-out-out w n b x e y ∙ ap (λ v. validAnswer w n v (rd b)) (sym (read-out m s b e .0))
+
   pub valid-none : (w : Bool) (a n from : ℕ) → n ≡ 0 → call m (valid w a n from) s ≡ (s, refusal 3)
   unfolding shadowStep
   valid-none w a n from z = call-step m (valid w a n from) s ok fit ∙ rw (eq-eqb n 0 z)
@@ -142,6 +155,9 @@ module _ (m : FormMap) (s : Shadows) (ok : goodMap m ≡ true) (fit : lengthsFit
       go (is-false t) = rw (ne-eqb n 0 z, er, t)
 
   -- ---- initialised
+
+  pub valid-alone : (w : Bool) (a n from : ℕ) → n ≢ 0 → a ≡ from → call m (valid w a n from) s ≡ (s, validAnswer w n (rd a) (rd a))
+  valid-alone w a n from z e = rw e (valid-reads w from n from z (rd from) refl)
 
   pub initialised-none : (a n : ℕ) → n ≡ 0 → call m (initialised a n) s ≡ (s, refusal 3)
   unfolding shadowStep

@@ -45,9 +45,6 @@ fn valid_heap(
     let first = heap_forms::read(form, heap, p);
     match locate(map, from) {
         Located::Heap(q) => {
-            if q.0 == p.0 {
-                return monitor_yes_no::judged(first, n, first, false);
-            }
             monitor_yes_no::judged(first, n, heap_forms::read(form, heap, q), false)
         }
         Located::Stack(q) => monitor_yes_no::apart(first, stack_read::read(primary, secondary, q)),
@@ -75,9 +72,6 @@ fn valid_stack(
     let first = stack_read::read(primary, secondary, p);
     match locate(map, from) {
         Located::Stack(q) => {
-            if q.0 == p.0 {
-                return monitor_yes_no::judged(first, n, first, write);
-            }
             monitor_yes_no::judged(first, n, stack_read::read(primary, secondary, q), write)
         }
         Located::Heap(q) => monitor_yes_no::apart(first, heap_forms::read(form, heap, q)),
@@ -112,7 +106,7 @@ fn valid_outside(
 }
 
 // Whether n bytes and the byte at from lie in one block, and may be written where that is asked: 1 or 0. Both readings count; where they are one
-// it is taken once.
+// it is taken once, and from need not be looked for.
 pub fn valid(
     form: Form,
     map: Map,
@@ -133,6 +127,9 @@ pub fn valid(
     }
     if n == 0 {
         return guard::refusal(3);
+    }
+    if a.0 == from.0 {
+        return monitor_valid_alone::alone(form, map, heap, primary, secondary, a, n, write);
     }
     match locate(map, a) {
         Located::Heap(p) => valid_heap(form, map, heap, primary, secondary, p, n, from),

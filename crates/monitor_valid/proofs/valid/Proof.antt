@@ -11,7 +11,7 @@ use Rattle.monitor_base.proofs.CallLaws.{early-good}
 use Rattle.monitor_read_laws.proofs.AnswerLaws.{answers, refuses}
 use Rattle.plain.specs.Call.{Call, valid}
 use Rattle.monitor_base.proofs.LocatingLaws.{heap-there, stack-there, read-heap, read-stack, read-out}
-use Rattle.monitor_read_laws.proofs.RangingLaws.{valid-none, valid-reads}
+use Rattle.monitor_read_laws.proofs.RangingLaws.{valid-none, valid-alone, valid-reads}
 use borrow.Author.Needs.{needs}
 use Rattle.map.specs.FormMap.{under}
 use Rattle.monitor_valid.proofs.valid.Statement.{statement}
@@ -31,9 +31,13 @@ good : (c : tie.Else1) → (goodMap (under (entry c .args .form) (entry c .args 
 unfolding lengthsFit
 good c = early-good (under (entry c .args .form) (entry c .args .map)) (shadows (entry c)) (sym (c .if1 .left) ∙ c .before .checked .ensures)
 
+-- n is not 0
+abbrev past : tie.After-locate → tie.Else2
+past c = c .before .before .before .before
+
 -- the address lies in the heap, in the stack, in neither
 abbrev lies : tie.After-locate → Located → Type 0
-lies c = let e = entry (c .before .before) in Lies (e .args .map) (e .args .a .0)
+lies c = let e = entry (past c .before) in Lies (e .args .map) (e .args .a .0)
 
 in-heap : (c : tie.After-p) → lies (c .before .before) (Heap (c .p .given .0 .0))
 in-heap c = rw (c .p .given .1) at (c .before .before .locate .ensures)
@@ -66,6 +70,17 @@ returns-2 c =
     answers (under (e .args .form) (e .args .map)) (asked e) (shadows e) (c .refusal2 .result) _ (c .refusal2 .ensures)
     (valid-none (under (e .args .form) (e .args .map)) (shadows e) (g .0) (g .1) (e .args .write) (e .args .a .0) (e .args .n) (e .args .from .0) (c .before .if2 .taken))
 
+alone-requires : tie.Need-alone-requires
+alone-requires c κs = good (c .before .before .before .before)
+
+returns-3 : tie.Need-returns-3
+returns-3 c =
+    let z = c .before .before .before .before in
+    let e = entry (z .before) in
+    let g = good (z .before) in
+    answers (under (e .args .form) (e .args .map)) (asked e) (shadows e) (c .alone .result) _ (c .alone .ensures)
+    (valid-alone (under (e .args .form) (e .args .map)) (shadows e) (g .0) (g .1) (e .args .write) (e .args .a .0) (e .args .n) (e .args .from .0) (z .if2 .left) (c .before .if3 .taken))
+
 locate-requires : tie.Need-locate-requires
 locate-requires c κs = search needs
 
@@ -74,7 +89,7 @@ enum-known-p c = search needs
 
 valid-heap-requires : tie.Need-valid-heap-requires
 valid-heap-requires c κs =
-    let k = c .before .before .before .before .before in
+    let k = past (c .before .before .before) .before in
     let e = entry k in
     let g = good k in
     let h = in-heap (c .before) in
@@ -85,7 +100,7 @@ enum-known-p-2 c = search needs
 
 valid-stack-requires : tie.Need-valid-stack-requires
 valid-stack-requires c κs =
-    let k = c .before .before .before .before .before in
+    let k = past (c .before .before .before) .before in
     let e = entry k in
     let g = good k in
     let h = in-stack (c .before) in
@@ -95,11 +110,11 @@ enum-told : tie.Need-enum-told
 enum-told c = search needs
 
 valid-outside-requires : tie.Need-valid-outside-requires
-valid-outside-requires c κs = good (c .before .before .before .before)
+valid-outside-requires c κs = good (past (c .before .before) .before)
 
-returns-3 : tie.Need-returns-3
-returns-3 c =
-    let z = c .before .before .before .before .before in
+returns-4 : tie.Need-returns-4
+returns-4 c =
+    let z = past (c .before .before .before .before) in
     let e = entry (z .before) in
     let g = good (z .before) in
     let h = in-heap (c .before .before) in
@@ -107,9 +122,9 @@ returns-3 c =
     (valid-reads (under (e .args .form) (e .args .map)) (shadows e) (g .0) (g .1) (e .args .write) (e .args .a .0) (e .args .n) (e .args .from .0) (z .if2 .left) _
     (read-heap (under (e .args .form) (e .args .map)) (shadows e) (g .0) (g .1) (e .args .a .0) _ (h .0) (h .1) .0))
 
-returns-4 : tie.Need-returns-4
-returns-4 c =
-    let z = c .before .before .before .before .before in
+returns-5 : tie.Need-returns-5
+returns-5 c =
+    let z = past (c .before .before .before .before) in
     let e = entry (z .before) in
     let g = good (z .before) in
     let h = in-stack (c .before .before) in
@@ -117,9 +132,9 @@ returns-4 c =
     (valid-reads (under (e .args .form) (e .args .map)) (shadows e) (g .0) (g .1) (e .args .write) (e .args .a .0) (e .args .n) (e .args .from .0) (z .if2 .left) _
     (read-stack (under (e .args .form) (e .args .map)) (shadows e) (g .0) (g .1) (e .args .a .0) _ (h .0) (h .1) .0))
 
-returns-5 : tie.Need-returns-5
-returns-5 c =
-    let z = c .before .before .before .before in
+returns-6 : tie.Need-returns-6
+returns-6 c =
+    let z = past (c .before .before .before) in
     let e = entry (z .before) in
     let g = good (z .before) in
     answers (under (e .args .form) (e .args .map)) (asked e) (shadows e) (c .valid-outside .result) _ (c .valid-outside .ensures (e .args .write) (e .args .n))
@@ -135,6 +150,8 @@ valid-spec =
     returns
     refusal-requires-2
     returns-2
+    alone-requires
+    returns-3
     locate-requires
     enum-known-p
     valid-heap-requires
@@ -142,6 +159,6 @@ valid-spec =
     valid-stack-requires
     enum-told
     valid-outside-requires
-    returns-3
     returns-4
-    returns-5)
+    returns-5
+    returns-6)

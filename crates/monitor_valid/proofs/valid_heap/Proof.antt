@@ -1,17 +1,13 @@
 -- `monitor_valid::valid_heap` meets its contract: one arm for each area of the other byte. Assumes nothing.
-use mathlib.Core.Path.{sym, ap, _∙_}
 use denote.Ref.{now}
-use lib.ListN.{length}
-use Rattle.number.specs.Parts.{at}
 use Rattle.shadows.specs.Shadows.{Shadows}
 use Rattle.monitor_base.specs.Locating.{Lies}
 use Rattle.monitor_base.specs.declared.Located.{Located}
 use Rattle.monitor_base.specs.declared.Located.the-variants.{Heap, Stack, Outside}
-use Rattle.heap_layout.specs.Reading.{heapReading}
 use Rattle.monitor_base.proofs.LocatingLaws.{heap-lengths, heap-there, stack-there}
 use Rattle.monitor_read_laws.proofs.RangingLaws.{valid-heap-heap, valid-heap-stack, valid-out}
 use borrow.Author.Needs.{needs}
-use Rattle.map.specs.FormMap.{numberSize, segmentSize, under}
+use Rattle.map.specs.FormMap.{under}
 use Rattle.monitor_valid.proofs.valid_heap.Statement.{statement}
 use Rattle.monitor_valid.proofs.valid_heap.Tie as tie
 
@@ -47,28 +43,15 @@ locate-requires c κs = search needs
 enum-known-q : tie.Need-enum-known-q
 enum-known-q c = search needs
 
-judged-requires : tie.Need-judged-requires
-judged-requires c κs = search needs
-
-returns : tie.Need-returns
-returns c w =
-    let q = c .before .before .before .before .before in
-    let l = q .before .before in
-    let e = entry l in
-    let h = in-heap q in
-    let f = l .before .read .ensures in
-    valid-heap-heap (under (e .args .form) (e .args .map)) (shadows e) (e .pre .0) (e .pre .1) w (e .args .n) _ _ (e .args .from .0) (q .q .given .0 .0 .0) _ (e .args .p .0) f (h .0) (h .1)
-    (f ∙ ap (heapReading (numberSize (e .args .form)) (segmentSize (e .args .form)) (length (now (e .args .heap))) (at (now (e .args .heap)))) (sym (c .before .if1 .taken))) (c .judged .ensures)
-
 read-requires-2 : tie.Need-read-requires-2
 read-requires-2 c κs =
-    let q = c .before .before .before .before in
+    let q = c .before in
     let e = entry (q .before .before) in
     let h = in-heap q in
     heap-there (under (e .args .form) (e .args .map)) (shadows e) (e .pre .0) (e .pre .1) (e .args .from .0) _ (h .0) (h .1)
 
-judged-requires-2 : tie.Need-judged-requires-2
-judged-requires-2 c κs = search needs
+judged-requires : tie.Need-judged-requires
+judged-requires c κs = search needs
 
 enum-known-q-2 : tie.Need-enum-known-q-2
 enum-known-q-2 c = search needs
@@ -89,17 +72,17 @@ enum-told c = search needs
 apart-requires-2 : tie.Need-apart-requires-2
 apart-requires-2 c κs = search needs
 
-returns-2 : tie.Need-returns-2
-returns-2 c w =
-    let q = c .before .before .before .before .before .before in
+returns : tie.Need-returns
+returns c w =
+    let q = c .before .before .before in
     let l = q .before .before in
     let e = entry l in
     let h = in-heap q in
     valid-heap-heap (under (e .args .form) (e .args .map)) (shadows e) (e .pre .0) (e .pre .1) w (e .args .n) _ _ (e .args .from .0) (q .q .given .0 .0 .0) _ (e .args .p .0) (l .before .read .ensures) (h .0) (h .1)
-    (c .before .read2 .ensures) (c .judged2 .ensures)
+    (c .before .read2 .ensures) (c .judged .ensures)
 
-returns-3 : tie.Need-returns-3
-returns-3 c w =
+returns-2 : tie.Need-returns-2
+returns-2 c w =
     let q = c .before .before .before in
     let l = q .before .before in
     let e = entry l in
@@ -107,8 +90,8 @@ returns-3 c w =
     valid-heap-stack (under (e .args .form) (e .args .map)) (shadows e) (e .pre .0) (e .pre .1) w (e .args .n) _ _ (e .args .from .0) (q .q2 .given .0 .0 .0) _ (e .args .p .0) (l .before .read .ensures) (h .0) (h .1)
     (c .before .read3 .ensures) (c .apart .ensures)
 
-returns-4 : tie.Need-returns-4
-returns-4 c w =
+returns-3 : tie.Need-returns-3
+returns-3 c w =
     let l = c .before .before .before in
     let e = entry l in
     valid-out (under (e .args .form) (e .args .map)) (shadows e) (e .pre .0) (e .pre .1) w (e .args .n) (e .args .map .«heap_start») _ _ (e .args .from .0) _ (l .before .read .ensures) (outside (c .before)) (c .apart2 .ensures)
@@ -120,15 +103,13 @@ valid-heap-spec =
     read-requires
     locate-requires
     enum-known-q
-    judged-requires
-    returns
     read-requires-2
-    judged-requires-2
+    judged-requires
     enum-known-q-2
     read-requires-3
     apart-requires
     enum-told
     apart-requires-2
+    returns
     returns-2
-    returns-3
-    returns-4)
+    returns-3)

@@ -4,10 +4,7 @@ use Rattle.shadows.specs.Shadows.{Shadows}
 use Rattle.monitor_base.specs.Locating.{Lies}
 use Rattle.monitor_base.specs.declared.Located.{Located}
 use Rattle.monitor_base.specs.declared.Located.the-variants.{Heap, Stack, Outside}
-use mathlib.Core.Path.{sym, ap, _∙_}
-use lib.ListN.{length}
-use Rattle.number.specs.Parts.{at}
-use Rattle.stack_layout.specs.Reading.{stackReading}
+use mathlib.Core.Path.{sym, _∙_}
 use Rattle.monitor_base.proofs.LocatingLaws.{stack-lengths, heap-there, stack-there}
 use Rattle.monitor_read_laws.proofs.RangingLaws.{valid-stack-stack, valid-stack-heap, valid-out}
 use borrow.Author.Needs.{needs}
@@ -47,28 +44,15 @@ locate-requires c κs = search needs
 enum-known-q : tie.Need-enum-known-q
 enum-known-q c = search needs
 
-judged-requires : tie.Need-judged-requires
-judged-requires c κs = search needs
-
-returns : tie.Need-returns
-returns c =
-    let q = c .before .before .before .before .before in
-    let l = q .before .before in
-    let e = entry l in
-    let h = in-stack q in
-    let f = l .before .read .ensures in
-    valid-stack-stack (under (e .args .form) (e .args .map)) (shadows e) (e .pre .0) (e .pre .1) (e .args .write) (e .args .n) _ _ (e .args .from .0) (q .q .given .0 .0 .0) _ (e .args .p .0) f (h .0) (h .1)
-    (f ∙ ap (stackReading (length (now (e .args .primary))) (at (now (e .args .primary))) (at (now (e .args .secondary)))) (sym (c .before .if1 .taken))) (c .judged .ensures)
-
 read-requires-2 : tie.Need-read-requires-2
 read-requires-2 c κs =
-    let q = c .before .before .before .before in
+    let q = c .before in
     let e = entry (q .before .before) in
     let h = in-stack q in
     stack-there (under (e .args .form) (e .args .map)) (shadows e) (e .pre .0) (e .pre .1) (e .args .from .0) _ (h .0) (h .1)
 
-judged-requires-2 : tie.Need-judged-requires-2
-judged-requires-2 c κs = search needs
+judged-requires : tie.Need-judged-requires
+judged-requires c κs = search needs
 
 enum-known-q-2 : tie.Need-enum-known-q-2
 enum-known-q-2 c = search needs
@@ -89,17 +73,17 @@ enum-told c = search needs
 apart-requires-2 : tie.Need-apart-requires-2
 apart-requires-2 c κs = search needs
 
-returns-2 : tie.Need-returns-2
-returns-2 c =
-    let q = c .before .before .before .before .before .before in
+returns : tie.Need-returns
+returns c =
+    let q = c .before .before .before in
     let l = q .before .before in
     let e = entry l in
     let h = in-stack q in
     valid-stack-stack (under (e .args .form) (e .args .map)) (shadows e) (e .pre .0) (e .pre .1) (e .args .write) (e .args .n) _ _ (e .args .from .0) (q .q .given .0 .0 .0) _ (e .args .p .0) (l .before .read .ensures) (h .0) (h .1)
-    (c .before .read2 .ensures) (c .judged2 .ensures)
+    (c .before .read2 .ensures) (c .judged .ensures)
 
-returns-3 : tie.Need-returns-3
-returns-3 c =
+returns-2 : tie.Need-returns-2
+returns-2 c =
     let q = c .before .before .before in
     let l = q .before .before in
     let e = entry l in
@@ -107,8 +91,8 @@ returns-3 c =
     valid-stack-heap (under (e .args .form) (e .args .map)) (shadows e) (e .pre .0) (e .pre .1) (e .args .write) (e .args .n) _ _ (e .args .from .0) (q .q2 .given .0 .0 .0) _ (e .args .p .0) (l .before .read .ensures) (h .0) (h .1)
     (c .before .read3 .ensures) (c .apart .ensures)
 
-returns-4 : tie.Need-returns-4
-returns-4 c =
+returns-3 : tie.Need-returns-3
+returns-3 c =
     let l = c .before .before .before in
     let e = entry l in
     valid-out (under (e .args .form) (e .args .map)) (shadows e) (e .pre .0) (e .pre .1) (e .args .write) (e .args .n) (e .args .map .«stack_start») _ _ (e .args .from .0) _ (l .before .read .ensures) (outside (c .before)) (c .apart2 .ensures)
@@ -120,15 +104,13 @@ valid-stack-spec =
     read-requires
     locate-requires
     enum-known-q
-    judged-requires
-    returns
     read-requires-2
-    judged-requires-2
+    judged-requires
     enum-known-q-2
     read-requires-3
     apart-requires
     enum-told
     apart-requires-2
+    returns
     returns-2
-    returns-3
-    returns-4)
+    returns-3)
