@@ -8,6 +8,7 @@ use crate::case::Plan;
 use crate::count::Counts;
 use crate::measure::{median, ratio, Row};
 use crate::plot;
+use crate::targets::{Target, INSTRUCTIONS};
 
 mod others;
 pub use others::Others;
@@ -140,22 +141,28 @@ impl Report {
         table
     }
 
+    /// A target's limit in words, and what the library reaches.
+    fn reached(&self, target: &Target) -> (String, Option<f64>) {
+        let Target { case, peer, most } = *target;
+        if peer == INSTRUCTIONS {
+            return (format!("{most} {peer}"), self.count(case, 0));
+        }
+        let side = self.titles.iter().position(|&title| title == peer);
+        let reached = side.and_then(|side| self.in_peer(case, side));
+        (format!("{most} × {peer}"), reached)
+    }
+
     fn target_table(&self) -> String {
         let mut table = String::from("| Case | at most | is | |\n|---|---:|---:|---|\n");
         for (index, case) in self.plan.cases.iter().enumerate() {
             for target in (self.plan.targets)(index, case) {
-                let side = self.titles.iter().position(|&title| title == target.peer);
-                let reached = side.and_then(|side| self.in_peer(target.case, side));
+                let (limit, reached) = self.reached(&target);
                 let (value, verdict) = match reached {
                     Some(value) if value <= target.most => (short(value), "met"),
                     Some(value) => (short(value), "**missed**"),
                     None => (cell(None), "peer not there"),
                 };
-                let _ = writeln!(
-                    table,
-                    "| {} | {} × {} | {value} | {verdict} |",
-                    case.title, target.most, target.peer
-                );
+                let _ = writeln!(table, "| {} | {limit} | {value} | {verdict} |", case.title);
             }
         }
         table

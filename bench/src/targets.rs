@@ -3,7 +3,10 @@
 use crate::case::{Case, Group};
 use crate::lists::Calls;
 
-/// At most so many times a peer's time.
+/// Stands for a peer in a target: at most so many instructions a call.
+pub const INSTRUCTIONS: &str = "instructions";
+
+/// At most so many times a peer's time, or so many instructions.
 pub struct Target {
     pub case: usize,
     pub peer: &'static str,
@@ -23,8 +26,8 @@ pub fn targets(index: usize, case: &Case) -> Vec<Target> {
         Group::Reading => vec![target("list", 0.2), target("trie", 0.2)],
         Group::Next => vec![target("list", 0.2)],
         Group::Placing if case.title.contains("1,024") => vec![target("memset", 4.0)],
-        Group::Whole if case.title == AUDIT => vec![target("memset", 10.0)],
-        Group::Replay => vec![target("shadow", 1.0)],
+        Group::Whole if case.title == AUDIT => vec![target("memset", 8.0)],
+        Group::Replay => vec![target("shadow", 1.0), target(INSTRUCTIONS, 125.0)],
         _ => Vec::new(),
     }
 }

@@ -132,6 +132,22 @@ fn place_beside_c() {
     assert!(text.ends_with("| some marks | 3.00 | 8.00 | 0.75 | 1.00 | 3.00 | 50 | 200 | 0.25 |\n"));
 }
 
+/// A limit in instructions is held against the library's own count.
+#[test]
+fn limit_in_instructions() {
+    let mut report = report(false);
+    report.plan.targets = |case, _| {
+        vec![Target {
+            case,
+            peer: INSTRUCTIONS,
+            most: 75.0,
+        }]
+    };
+    let table = report.target_table();
+    assert!(table.contains("| some marks | 75 instructions | 50.0 | met |\n"));
+    assert!(table.contains("| an ask | 75 instructions | 100 | **missed** |\n"));
+}
+
 /// The same ratios, of the instructions too; without E-ACSL's model its columns are empty.
 #[test]
 fn desk_beside_player() {
