@@ -19,15 +19,15 @@ fn climb(part: &mut [u8], first: u8)
     }
 }
 
-// The same in four bytes from p on, as one number: no byte carries into the next.
-fn climb_four(primary: &mut [u8], p: Position, first: u8)
-    requires { ⌜ (p .0 + 4 ≤ length (now primary)) × (first + 12 ≤ 255) ⌝ }
-    ensures { λ _. ⌜ now (primary .exit) ≡ over (p .0) 4 (λ x. first + 4 * (x - p .0)) (now (primary .entry)) ⌝ }
+// The same in eight bytes from p on, as one number: no byte carries into the next.
+fn climb_eight(primary: &mut [u8], p: Position, first: u8)
+    requires { ⌜ (p .0 + 8 ≤ length (now primary)) × (first + 28 ≤ 255) ⌝ }
+    ensures { λ _. ⌜ now (primary .exit) ≡ over (p .0) 8 (λ x. first + 4 * (x - p .0)) (now (primary .entry)) ⌝ }
 {
-    number_words::put_at(
+    number_words::put_eight_at(
         primary,
         p.0,
-        0x01010101 * number_words::wide(first) + 0x0c080400,
+        0x0101010101010101 * (first as u64) + 0x1c1814100c080400,
     );
 }
 
@@ -41,19 +41,13 @@ fn climb_part(primary: &mut [u8], p: Position, n: usize, first: u8)
     climb(&mut primary[q..e], first);
 }
 
-// The same in the n bytes from p on; every other byte stays. Blocks of four and eight bytes, and pieces, are one store and two.
+// The same in the n bytes from p on; every other byte stays. A piece of eight is one store.
 pub fn climb_at(primary: &mut [u8], p: Position, n: usize, first: u8)
     requires { ⌜ (p .0 + n ≤ length (now primary)) × (first + 4 * n ≤ 255) ⌝ }
     ensures { λ _. ⌜ now (primary .exit) ≡ over (p .0) n (λ x. first + 4 * (x - p .0)) (now (primary .entry)) ⌝ }
 {
-    if n == 4 {
-        climb_four(primary, p, first);
-        return;
-    }
     if n == 8 {
-        let second = p.0 + 4;
-        climb_four(primary, p, first);
-        climb_four(primary, Position(second), first + 16);
+        climb_eight(primary, p, first);
         return;
     }
     climb_part(primary, p, n, first);

@@ -4,3 +4,4 @@ pub mod MarkLaws
 pub mod CodeLaws
 pub mod TableLaws
 pub mod StampLaws
+pub mod WordLaws

@@ -121,36 +121,3 @@ last-secondary b L o long eights within short S T z before =
   where
     zero-byte : (i : ℕ) → o ≤ i → i < L → secondaryOf L i ≡ 0
     zero-byte i x y = rw (lt-leb L 8 long, le-ltb (i - 8 * min (i / 8) (L / 8 - 1)) 4 (omega arith), le-ltb (i - 8 * min (i / 8) (L / 8 - 1)) 8 (omega arith))
-
--- codes that climb, as one number: no byte carries into the next
-climb-byte : (first i : ℕ) → first + 12 ≤ 255 → i < 4 → byteOf (16843009 * first + 201851904) i ≡ first + 4 * i
-unfolding byteOf
-climb-byte first i h k = go i k
-  where
-    one : (16843009 * first + 201851904) / 256 ≡ 65793 * first + 788484
-    one = omega (arith, h)
-
-    two : (65793 * first + 788484) / 256 ≡ 257 * first + 3080
-    two = omega (arith, h)
-
-    three : (257 * first + 3080) / 256 ≡ first + 12
-    three = omega (arith, h)
-
-    go : (i : ℕ) → i < 4 → byteOf (16843009 * first + 201851904) i ≡ first + 4 * i
-    go zero k = omega (arith, h)
-    go (suc zero) k = rw one (omega (arith, h))
-    go (suc (suc zero)) k = rw (one, two) (omega (arith, h))
-    go (suc (suc (suc zero))) k = rw (one, two, three) (omega (arith, h))
-    go (suc (suc (suc (suc i)))) k = absurd (omega arith)
-
-pub climb-word : (first v q : ℕ) (h l : List ℕ) → first + 12 ≤ 255 → v ≡ 16843009 * first + 201851904 → l ≡ over q 4 (λ x. byteOf v (x - q)) h
-    → l ≡ over q 4 (λ x. first + 4 * (x - q)) h
-climb-word first v q h l b w e =
-    e ∙ over-ext q 4 (λ x. byteOf v (x - q)) (λ x. first + 4 * (x - q)) h (λ x y z. rw w (climb-byte first (x - q) b (omega (arith, y, z))))
-
--- codes that climb on
-pub climb-on : (first q : ℕ) (h l l′ : List ℕ) → l ≡ over q 4 (λ x. first + 4 * (x - q)) h → l′ ≡ over (q + 4) 4 (λ x. first + 16 + 4 * (x - (q + 4))) l
-    → l′ ≡ over q 8 (λ x. first + 4 * (x - q)) h
-climb-on first q h l l′ e e′ =
-    e′ ∙ ap (over (q + 4) 4 (λ x. first + 16 + 4 * (x - (q + 4)))) e
-    ∙ over-next q 4 4 (λ x. first + 4 * (x - q)) (λ x. first + 16 + 4 * (x - (q + 4))) h (λ x y z. omega (arith, y))

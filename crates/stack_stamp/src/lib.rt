@@ -22,17 +22,12 @@ fn first_bits(how: Beginning) -> u8
     }
 }
 
-// The primary bytes, each with these low bits: the codes of a short block climb from its first, those of each piece from 48.
+// The primary bytes of a long block, each with these low bits: the codes of each piece climb from 48.
 // The pieces before the last have eight bytes, the last takes the remainder.
-fn stamp_primary(primary: &mut [u8], base: Position, len: u32, bits: u8)
-    requires { ⌜ (base .0 + len ≤ length (now primary)) × (length (now primary) ≤ 65536) × (1 ≤ len) × (bits ≤ 3) ⌝ }
+fn stamp_pieces(primary: &mut [u8], base: Position, len: u32, bits: u8)
+    requires { ⌜ (base .0 + len ≤ length (now primary)) × (length (now primary) ≤ 65536) × (9 ≤ len) × (bits ≤ 3) ⌝ }
     ensures { λ _. ⌜ now (primary .exit) ≡ over (base .0) len (λ q. primaryOf len (q - base .0) bits) (now (primary .entry)) ⌝ }
 {
-    if len <= 8 {
-        let first = 4 * (codes_below(len) + 1);
-        stack_climb::climb_at(primary, base, len as usize, first as u8 + bits);
-        return;
-    }
     let Position(b) = base;
     let mut o: u32 = 0;
     while o + 16 <= len {
@@ -42,6 +37,31 @@ fn stamp_primary(primary: &mut [u8], base: Position, len: u32, bits: u8)
     }
     let last = b + (o as usize);
     stack_climb::climb_at(primary, Position(last), (len - o) as usize, 192 + bits);
+}
+
+// The primary bytes of any block: the codes of a short one climb from its first. Those of the commonest lengths are one number, in which no
+// byte carries into the next.
+fn stamp_primary(primary: &mut [u8], base: Position, len: u32, bits: u8)
+    requires { ⌜ (base .0 + len ≤ length (now primary)) × (length (now primary) ≤ 65536) × (1 ≤ len) × (bits ≤ 3) ⌝ }
+    ensures { λ _. ⌜ now (primary .exit) ≡ over (base .0) len (λ q. primaryOf len (q - base .0) bits) (now (primary .entry)) ⌝ }
+{
+    let Position(b) = base;
+    if len == 4 {
+        let word = 0x2824201c + 0x01010101 * number_words::wide(bits);
+        number_words::put_at(primary, b, word);
+        return;
+    }
+    if len == 8 {
+        let word = 0x908c8884807c7874 + 0x0101010101010101 * (bits as u64);
+        number_words::put_eight_at(primary, b, word);
+        return;
+    }
+    if len > 8 {
+        stamp_pieces(primary, base, len, bits);
+        return;
+    }
+    let first = 4 * (codes_below(len) + 1);
+    stack_climb::climb_at(primary, base, len as usize, first as u8 + bits);
 }
 
 // The secondary bytes, in a place where they are zero: each piece of a long block begins with the length and its own offset.

@@ -1,145 +1,114 @@
--- `stack_stamp::stamp_primary` meets its contract. The loop's invariant: the pieces before offset o are written, the others are as they were. Assumes nothing.
-use mathlib.Core.Path.{_≡_, refl, sym, _∙_}
-use mathlib.Core.Logic.{inl, inr}
-use Prim.Native.Nat.{_+_, _-_, _%_, _≤_, _<_}
+-- `stack_stamp::stamp_primary` meets its contract: four bytes and eight are the words of their codes. Assumes nothing.
+use mathlib.Core.Path.{sym}
 use native.Mathlib.Omega.{arith}
 use denote.Ref.{now}
-use lib.ListN.{length}
 use borrow.Author.Needs.{needs}
-use Rattle.number.specs.Parts.{over}
-use Rattle.number.proofs.PartLaws.{over-none}
-use Rattle.stack_layout.specs.Code.{primaryOf}
-use Rattle.stack_laws.proofs.StampLaws.{short-primary, next-primary}
+use Rattle.stack_laws.proofs.StampLaws.{short-primary}
+use Rattle.stack_laws.proofs.WordLaws.{put-primary, primary-four, primary-eight}
 use Rattle.stack_stamp.proofs.stamp_primary.Statement.{statement}
 use Rattle.stack_stamp.proofs.stamp_primary.Tie as tie
 
-abbrev Inv-loop : tie.InvT-loop
-Inv-loop primary₀ len bits b o₀ primary o =
-    (o % 8 ≡ 0) × (o + 8 ≤ len) × (length primary ≡ length primary₀) × (primary ≡ over b o (λ q. primaryOf len (q - b) bits) primary₀)
+wide-requires : tie.Need-wide-requires
+wide-requires c κs = search needs
 
-abbrev μ-loop : tie.MeasureT-loop
-μ-loop primary₀ len bits b o₀ primary o = len - o
+mul-word : tie.Need-mul-word
+mul-word c = search needs
 
-codes-below-requires : tie.Need-codes-below-requires Inv-loop μ-loop
-codes-below-requires c κs = search needs
+add-word : tie.Need-add-word
+add-word c = search needs
 
-add-first : tie.Need-add-first Inv-loop μ-loop
-add-first c = search needs
+put-at-requires : tie.Need-put-at-requires
+put-at-requires c κs = search needs
 
-mul-first : tie.Need-mul-first Inv-loop μ-loop
-mul-first c = search needs
-
-cast-climb-at : tie.Need-cast-climb-at Inv-loop μ-loop
-cast-climb-at c = search needs
-
-add-climb-at : tie.Need-add-climb-at Inv-loop μ-loop
-add-climb-at c = search needs
-
-climb-at-requires : tie.Need-climb-at-requires Inv-loop μ-loop
-climb-at-requires c κs = search needs
-
-same-length : tie.Need-same-length Inv-loop μ-loop
+same-length : tie.Need-same-length
 same-length c = search needs
 
-returns : tie.Need-returns Inv-loop μ-loop
+returns : tie.Need-returns
 returns c =
-    let s = c .before .before .before .before .before .before .before in
-    short-primary (s .args .base .0) (s .args .len) _ (s .args .bits) (omega arith) (c .before .before .before .before .codes-below .ensures .0) (now (s .args .primary)) _
-    (c .before .before .climb-at .ensures)
+    let w = c .before .before .before .before in
+    let i = w .before in
+    let s = i .before .before in
+    put-primary (s .args .len) 4 (s .args .bits) _ (s .args .base .0) (now (s .args .primary)) _ (i .if1 .taken) (omega arith) (s .pre .3)
+    (omega (arith, w .wide .ensures .0, primary-four (s .args .bits))) (c .before .before .put-at .ensures)
 
-loop-holds : tie.Need-loop-holds Inv-loop μ-loop
-loop-holds c = (refl, omega arith, refl, sym (over-none _ _ _))
+mul-word-2 : tie.Need-mul-word-2
+mul-word-2 c = search needs
 
-add-loop : tie.Need-add-loop Inv-loop μ-loop
-add-loop c = search needs
+add-word-2 : tie.Need-add-word-2
+add-word-2 c = search needs
 
-cast-q : tie.Need-cast-q Inv-loop μ-loop
-cast-q c = search needs
+put-eight-at-requires : tie.Need-put-eight-at-requires
+put-eight-at-requires c κs = search needs
 
-add-q : tie.Need-add-q Inv-loop μ-loop
-add-q c = search needs
-
-add-climb-at-2 : tie.Need-add-climb-at-2 Inv-loop μ-loop
-add-climb-at-2 c = search needs
-
-climb-at-requires-2 : tie.Need-climb-at-requires-2 Inv-loop μ-loop
-climb-at-requires-2 c κs = search needs
-
-add-o : tie.Need-add-o Inv-loop μ-loop
-add-o c = search needs
-
-loop-less : tie.Need-loop-less Inv-loop μ-loop
-loop-less c = search needs
-
-loop-again : tie.Need-loop-again Inv-loop μ-loop
-loop-again c =
-    let s = c .before .before .before .before .before .before .before .before .args in
-    let l = c .before .before .before .before .before .loop in
-    let run = c .before .before .climb-at2 in (
-      omega arith,
-      omega arith,
-      run .kept .0 ∙ l .inv .2,
-      next-primary (s .base .0) (s .len) (l .o) 8 (omega arith) (l .inv .0) (omega arith) (inl refl) (omega arith) (s .bits) (now (s .primary)) _ _ (l .inv .3) (run .ensures),
-    )
-
-cast-last : tie.Need-cast-last Inv-loop μ-loop
-cast-last c = search needs
-
-add-last : tie.Need-add-last Inv-loop μ-loop
-add-last c = search needs
-
-sub-climb-at : tie.Need-sub-climb-at Inv-loop μ-loop
-sub-climb-at c = search needs
-
-cast-climb-at-2 : tie.Need-cast-climb-at-2 Inv-loop μ-loop
-cast-climb-at-2 c = search needs
-
-add-climb-at-3 : tie.Need-add-climb-at-3 Inv-loop μ-loop
-add-climb-at-3 c = search needs
-
-climb-at-requires-3 : tie.Need-climb-at-requires-3 Inv-loop μ-loop
-climb-at-requires-3 c κs = search needs
-
-same-length-2 : tie.Need-same-length-2 Inv-loop μ-loop
+same-length-2 : tie.Need-same-length-2
 same-length-2 c = search needs
 
-returns-2 : tie.Need-returns-2 Inv-loop μ-loop
+returns-2 : tie.Need-returns-2
 returns-2 c =
-    let s = c .before .before .before .before .before .before .before .before .args in
-    let l = c .before .before .before .before .before .loop in
-    let n = s .len - l .o in
-    let e : l .o + n ≡ s .len = omega arith in
-    let last : s .len < l .o + 16 = omega arith in
-    rw e at (next-primary (s .base .0) (s .len) (l .o) n (omega arith) (l .inv .0) (omega arith) (inr last) (omega arith) (s .bits) (now (s .primary)) _ _ (l .inv .3) (c .before .before .climb-at3 .ensures))
+    let i = c .before .before .before .before in
+    let s = i .before .before .before in
+    put-primary (s .args .len) 8 (s .args .bits) _ (s .args .base .0) (now (s .args .primary)) _ (i .if2 .taken) (omega arith) (s .pre .3)
+    (sym (primary-eight (s .args .bits))) (c .before .before .put-eight-at .ensures)
+
+stamp-pieces-requires : tie.Need-stamp-pieces-requires
+stamp-pieces-requires c κs = search needs
+
+same-length-3 : tie.Need-same-length-3
+same-length-3 c = search needs
+
+returns-3 : tie.Need-returns-3
+returns-3 c = search needs
+
+codes-below-requires : tie.Need-codes-below-requires
+codes-below-requires c κs = search needs
+
+add-first : tie.Need-add-first
+add-first c = search needs
+
+mul-first : tie.Need-mul-first
+mul-first c = search needs
+
+cast-climb-at : tie.Need-cast-climb-at
+cast-climb-at c = search needs
+
+add-climb-at : tie.Need-add-climb-at
+add-climb-at c = search needs
+
+climb-at-requires : tie.Need-climb-at-requires
+climb-at-requires c κs = search needs
+
+same-length-4 : tie.Need-same-length-4
+same-length-4 c = search needs
+
+returns-4 : tie.Need-returns-4
+returns-4 c =
+    let s = c .before .before .before .before .before .before .before .before .before in
+    short-primary (s .args .base .0) (s .args .len) _ (s .args .bits) (omega arith) (c .before .before .before .before .codes-below .ensures .0) (now (s .args .primary)) _
+    (c .before .before .climb-at .ensures)
 
 pub stamp-primary-spec : {M : Type 1} → statement M
 stamp-primary-spec =
     tie.close
     (tie.spec
-    Inv-loop
-    μ-loop
+    wide-requires
+    mul-word
+    add-word
+    put-at-requires
+    same-length
+    returns
+    mul-word-2
+    add-word-2
+    put-eight-at-requires
+    same-length-2
+    returns-2
+    stamp-pieces-requires
+    same-length-3
+    returns-3
     codes-below-requires
     add-first
     mul-first
     cast-climb-at
     add-climb-at
     climb-at-requires
-    same-length
-    returns
-    loop-holds
-    add-loop
-    cast-q
-    add-q
-    add-climb-at-2
-    climb-at-requires-2
-    add-o
-    loop-less
-    loop-again
-    cast-last
-    add-last
-    sub-climb-at
-    cast-climb-at-2
-    add-climb-at-3
-    climb-at-requires-3
-    same-length-2
-    returns-2)
+    same-length-4
+    returns-4)
