@@ -6,7 +6,7 @@ ghost use Rattle.plain.specs.Answers.{readingOf};
 ghost use Rattle.plain.specs.Lift.{readingUp};
 ghost use Rattle.monitor_base.specs.Answers.{answerOf, outcome};
 ghost use Rattle.monitor_base.specs.Calls.{call};
-ghost use Rattle.monitor_read_laws.specs.Asked.{originOf, askReading, baseBelow};
+ghost use Rattle.monitor_read_laws.specs.Asked.{askReading, baseBelow};
 ghost use Rattle.plain.specs.Call as plain;
 use map::Address;
 use map::Form;
@@ -16,17 +16,6 @@ use monitor_base::Located;
 use monitor_base::guard;
 use monitor_base::locating::locate;
 use plain::Reading;
-
-// The start of the area that it lies in: the origin of its positions.
-fn origin(map: Map, l: Located) -> Address
-    ensures { λ r. ⌜ r .0 ≡ originOf map l ⌝ }
-{
-    match l {
-        Located::Heap(_) => Address(map.heap_start),
-        Located::Stack(_) => Address(map.stack_start),
-        Located::Outside => Address(0),
-    }
-}
 
 // What ask answers to a reading in the area that begins at start: of its two bits, the one for written.
 fn told(r: Reading, start: Address) -> Answer
@@ -64,12 +53,12 @@ pub fn ask(
     if k != 0 {
         return guard::refusal(k);
     }
-    let l = locate(map, a);
-    if let Located::Outside = l {
-        return guard::refusal(4);
+    match locate(map, a) {
+        Located::Heap(p) => told(heap_forms::read(form, heap, p), Address(map.heap_start)),
+        Located::Stack(p) => told(
+            stack_read::read(primary, secondary, p),
+            Address(map.stack_start),
+        ),
+        Located::Outside => guard::refusal(4),
     }
-    told(
-        monitor_reading::reading(form, heap, primary, secondary, l),
-        origin(map, l),
-    )
 }

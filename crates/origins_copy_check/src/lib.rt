@@ -3,11 +3,9 @@ ghost use mathlib.Core.Path.{_≡_};
 ghost use Rattle.cells_layout.specs.Cells.{cellOps};
 ghost use Rattle.origins_laws.specs.Pointers.{copyNumber, CellLies};
 use map::Address;
-use map::Form;
 use map::Map;
 use monitor_base::Located;
 use monitor_base::locating::locate;
-use monitor_reading::reading;
 use origins_base::guard;
 use origins_cells_read::referent;
 use origins_pointer::Aim;
@@ -43,15 +41,17 @@ pub fn check(
         return refused(k);
     }
     let place = locate(map, to);
-    if let Located::Outside = place {
-        return refused(4);
-    }
+    let there = match place {
+        Located::Heap(p) => heap_read::read(heap, p),
+        Located::Stack(p) => stack_read::read(primary, secondary, p),
+        Located::Outside => return refused(4),
+    };
     let source = locate(map, from);
-    if let Located::Outside = source {
-        return refused(4);
-    }
-    let there = reading(Form::Player, heap, primary, secondary, place);
-    let held = reading(Form::Player, heap, primary, secondary, source);
+    let held = match source {
+        Located::Heap(p) => heap_read::read(heap, p),
+        Located::Stack(p) => stack_read::read(primary, secondary, p),
+        Located::Outside => return refused(4),
+    };
     Aim {
         number: copy_refusal(to, from, there, held),
         place,

@@ -6,18 +6,17 @@ ghost use Rattle.origins_list.specs.Call as form;
 ghost use Rattle.origins_base.specs.Answers.{lent, outcomeAt};
 ghost use Rattle.origins_base.specs.Calls.{call};
 use map::Address;
-use map::Form;
 use map::Map;
 use monitor_base::Answer;
 use monitor_base::Located;
 use monitor_base::guard;
 use monitor_base::locating::locate;
-use monitor_reading::reading;
 use monitor_yes_no::yes_no;
 use origins_base::guard::checked;
 use origins_cells_read::origin_of;
 use origins_cells_read::referent;
 use origins_pointer::point_refusal;
+use plain::Reading;
 
 // 1 or 0. A pointer that was set to no block has the referent 0, which is no origin. The check of point is written out here: as a function of
 // its own, which takes slices and returns a place, it costs a fifth more in the call that guards every use of a pointer.
@@ -46,12 +45,17 @@ pub fn live(
         return guard::refusal(k);
     }
     let place = locate(map, cell);
+    let held = match place {
+        Located::Heap(p) => heap_read::read(heap, p),
+        Located::Stack(p) => stack_read::read(primary, secondary, p),
+        Located::Outside => return guard::refusal(4),
+    };
     let target = locate(map, a);
-    if let Located::Outside = place {
-        return guard::refusal(4);
-    }
-    let held = reading(Form::Player, heap, primary, secondary, place);
-    let told = reading(Form::Player, heap, primary, secondary, target);
+    let told = match target {
+        Located::Heap(p) => heap_read::read(heap, p),
+        Located::Stack(p) => stack_read::read(primary, secondary, p),
+        Located::Outside => Reading::Nothing,
+    };
     let number = point_refusal(cell, held, told);
     if number != 0 {
         return guard::refusal(number);

@@ -2,16 +2,15 @@
 ghost use mathlib.Core.Path.{_≡_};
 ghost use Rattle.origins_laws.specs.Pointers.{pointNumber, originHeld, CellLies};
 use map::Address;
-use map::Form;
 use map::Map;
 use monitor_base::Located;
 use monitor_base::locating::locate;
-use monitor_reading::reading;
 use origins_base::guard;
 use origins_cells_read::origin_of;
 use origins_pointer::Aim;
 use origins_pointer::point_refusal;
 use origins_pointer::refused;
+use plain::Reading;
 
 // The origin is that of the block that holds the address, 0 where there is none: an address in neither area is in no block.
 pub fn check(
@@ -43,12 +42,17 @@ pub fn check(
         return refused(k);
     }
     let place = locate(map, cell);
+    let held = match place {
+        Located::Heap(p) => heap_read::read(heap, p),
+        Located::Stack(p) => stack_read::read(primary, secondary, p),
+        Located::Outside => return refused(4),
+    };
     let target = locate(map, a);
-    if let Located::Outside = place {
-        return refused(4);
-    }
-    let held = reading(Form::Player, heap, primary, secondary, place);
-    let told = reading(Form::Player, heap, primary, secondary, target);
+    let told = match target {
+        Located::Heap(p) => heap_read::read(heap, p),
+        Located::Stack(p) => stack_read::read(primary, secondary, p),
+        Located::Outside => Reading::Nothing,
+    };
     Aim {
         number: point_refusal(cell, held, told),
         place,

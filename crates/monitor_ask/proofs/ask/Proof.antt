@@ -7,7 +7,7 @@ use Rattle.plain.specs.Call.{ask}
 use Rattle.shadows.specs.Shadows.{Shadows, lengthsFit}
 use Rattle.monitor_base.proofs.CallLaws.{early-good}
 use Rattle.monitor_read_laws.proofs.AnswerLaws.{answers, refuses}
-use Rattle.monitor_read_laws.proofs.AskingLaws.{in-area, ask-at, ask-out, there, base-at}
+use Rattle.monitor_read_laws.proofs.AskingLaws.{ask-heap, ask-stack, ask-out, there-as, heap-base, stack-base}
 use borrow.Author.Needs.{needs}
 use Rattle.map.specs.FormMap.{under}
 use Rattle.monitor_ask.proofs.ask.Statement.{statement}
@@ -39,6 +39,40 @@ returns c =
 locate-requires : tie.Need-locate-requires
 locate-requires c κs = search needs
 
+enum-known-p : tie.Need-enum-known-p
+enum-known-p c = search needs
+
+read-requires : tie.Need-read-requires
+read-requires c κs =
+    let l = c .before .before .before in
+    let e = entry (l .before) in
+    let g = good (l .before) in
+    there-as (under (e .args .form) (e .args .map)) (shadows e) (g .0) (g .1) (e .args .a .0) (l .locate .result) _ (l .locate .ensures) (c .before .p .given .1)
+
+told-requires : tie.Need-told-requires
+told-requires c κs =
+    let l = c .before .before .before .before in
+    let e = entry (l .before) in
+    let g = good (l .before) in
+    heap-base (under (e .args .form) (e .args .map)) (shadows e) (g .0) (g .1) _ (c .read .result) (c .read .ensures)
+
+enum-known-p-2 : tie.Need-enum-known-p-2
+enum-known-p-2 c = search needs
+
+read-requires-2 : tie.Need-read-requires-2
+read-requires-2 c κs =
+    let l = c .before .before .before in
+    let e = entry (l .before) in
+    let g = good (l .before) in
+    there-as (under (e .args .form) (e .args .map)) (shadows e) (g .0) (g .1) (e .args .a .0) (l .locate .result) _ (l .locate .ensures) (c .before .p2 .given .1)
+
+told-requires-2 : tie.Need-told-requires-2
+told-requires-2 c κs =
+    let l = c .before .before .before .before in
+    let e = entry (l .before) in
+    let g = good (l .before) in
+    stack-base (under (e .args .form) (e .args .map)) (shadows e) (g .0) (g .1) _ (c .read2 .result) (c .read2 .ensures)
+
 enum-told : tie.Need-enum-told
 enum-told c = search needs
 
@@ -47,41 +81,31 @@ refusal-requires-2 c κs = search needs
 
 returns-2 : tie.Need-returns-2
 returns-2 c =
+    let r = c .before in
+    let p = r .before .before in
+    let l = p .before .before in
+    let e = entry (l .before) in
+    let g = good (l .before) in
+    answers (under (e .args .form) (e .args .map)) (ask (e .args .a .0)) (shadows e) (c .told .result) _ (c .told .ensures)
+    (ask-heap (under (e .args .form) (e .args .map)) (shadows e) (g .0) (g .1) (e .args .a .0) _ (rw (p .p .given .1) at (l .locate .ensures)) _ (r .read .ensures))
+
+returns-3 : tie.Need-returns-3
+returns-3 c =
+    let r = c .before in
+    let p = r .before .before in
+    let l = p .before .before in
+    let e = entry (l .before) in
+    let g = good (l .before) in
+    answers (under (e .args .form) (e .args .map)) (ask (e .args .a .0)) (shadows e) (c .told2 .result) _ (c .told2 .ensures)
+    (ask-stack (under (e .args .form) (e .args .map)) (shadows e) (g .0) (g .1) (e .args .a .0) _ (rw (p .p2 .given .1) at (l .locate .ensures)) _ (r .read2 .ensures))
+
+returns-4 : tie.Need-returns-4
+returns-4 c =
     let l = c .before .before .before in
     let e = entry (l .before) in
     let g = good (l .before) in
     answers (under (e .args .form) (e .args .map)) (ask (e .args .a .0)) (shadows e) (c .refusal2 .result) _ (c .refusal2 .ensures)
     (ask-out (under (e .args .form) (e .args .map)) (shadows e) (g .0) (g .1) (e .args .a .0) (rw (c .before .enum-told .given .1) at (l .locate .ensures)))
-
-reading-requires : tie.Need-reading-requires
-reading-requires c κs =
-    let l = c .before in
-    let e = entry (l .before) in
-    let g = good (l .before) in
-    there (under (e .args .form) (e .args .map)) (shadows e) (g .0) (g .1) (e .args .a .0) (l .locate .result) (l .locate .ensures)
-
-origin-requires : tie.Need-origin-requires
-origin-requires c κs = search needs
-
-told-requires : tie.Need-told-requires
-told-requires c κs =
-    let r = c .before in
-    let l = r .before .before in
-    let e = entry (l .before) in
-    let g = good (l .before) in
-    base-at (under (e .args .form) (e .args .map)) (shadows e) (g .0) (g .1) (l .locate .result) (r .reading .result) (r .reading .ensures) _ (c .origin .ensures)
-
-returns-3 : tie.Need-returns-3
-returns-3 c =
-    let o = c .before in
-    let r = o .before in
-    let m = r .before in
-    let l = m .before in
-    let e = entry (l .before) in
-    let g = good (l .before) in
-    answers (under (e .args .form) (e .args .map)) (ask (e .args .a .0)) (shadows e) (c .told .result) _ (c .told .ensures)
-    (ask-at (under (e .args .form) (e .args .map)) (shadows e) (g .0) (g .1) (e .args .a .0) (l .locate .result) (l .locate .ensures) (in-area _ (m .match .keys2)) _ (r .reading .ensures) _
-    (o .origin .ensures))
 
 pub ask-spec : {M : Type 1} → statement M
 ask-spec =
@@ -91,10 +115,14 @@ ask-spec =
     refusal-requires
     returns
     locate-requires
+    enum-known-p
+    read-requires
+    told-requires
+    enum-known-p-2
+    read-requires-2
+    told-requires-2
     enum-told
     refusal-requires-2
     returns-2
-    reading-requires
-    origin-requires
-    told-requires
-    returns-3)
+    returns-3
+    returns-4)

@@ -1,12 +1,17 @@
 -- `origins_copy_check::check` meets its contract. Assumes nothing.
 use mathlib.Core.Path.{_≡_, sym, _∙_}
 use mathlib.Core.Bool.{true}
+use mathlib.Core.Logic.{⊎-elim}
+use Prim.Native.Nat.{ℕ}
 use native.Mathlib.Omega.{arith}
 use denote.Ref.{now}
 use Rattle.map.specs.FormMap.{player}
 use Rattle.map.specs.Map.{goodMap}
 use Rattle.shadows.specs.Shadows.{Shadows, lengthsFit}
-use Rattle.monitor_read_laws.proofs.AskingLaws.{in-area, there}
+use Rattle.monitor_read_laws.proofs.AskingLaws.{ReadAt, heap-arm, stack-arm, there-as}
+use Rattle.plain.specs.declared.Reading.{Reading}
+use Rattle.monitor_base.specs.declared.Located.{Located}
+use Rattle.monitor_base.specs.declared.Located.the-variants.{Outside}
 use Rattle.origins_list.specs.Call.{copy}
 use Rattle.cells_layout.specs.Cells.{Cells, cellsFit}
 use Rattle.origins_base.specs.Calls.{State}
@@ -36,6 +41,30 @@ good : (c : tie.Else1)
 unfolding lengthsFit cellsFit
 good c = early-good (entry (c .before) .args .map) (state (entry (c .before))) (sym (c .if1 .left) ∙ c .before .checked .ensures)
 
+-- an address that lies in an area, where it was located, and its reading
+abbrev Told : tie.Else1 → ℕ → Located → Reading → Type 0
+Told c a l r = ReadAt (player (entry (c .before) .args .map)) (shadows (entry (c .before))) a l r × (l ≡ Outside → ⊥)
+
+-- the ways meet: of the first cell
+there : (c : tie.At-match-came) → Told (c .before .before) (entry (c .before .before .before) .args .to .0) (c .match .place) (c .match .there)
+there c =
+    let l = c .before in
+    let e = entry (l .before .before) in
+    ⊎-elim
+    (λ w. heap-arm (player (e .args .map)) (shadows e) (e .args .to .0) _ (l .locate .result) _ _ (l .locate .ensures) (w .5) _ (w .1 .given .1) (w .4) (w .3 .ensures))
+    (λ w. stack-arm (player (e .args .map)) (shadows e) (e .args .to .0) _ (l .locate .result) _ _ (l .locate .ensures) (w .5) _ (w .1 .given .1) (w .4) (w .3 .ensures))
+    (c .match .came)
+
+-- and of the second
+held : (c : tie.At-match2-came) → Told (c .before .before .before .before) (entry (c .before .before .before .before .before) .args .from .0) (c .match2 .source) (c .match2 .held)
+held c =
+    let k = c .before in
+    let e = entry (k .before .before .before .before) in
+    ⊎-elim
+    (λ w. heap-arm (player (e .args .map)) (shadows e) (e .args .from .0) _ (k .locate2 .result) _ _ (k .locate2 .ensures) (w .5) _ (w .1 .given .1) (w .4) (w .3 .ensures))
+    (λ w. stack-arm (player (e .args .map)) (shadows e) (e .args .from .0) _ (k .locate2 .result) _ _ (k .locate2 .ensures) (w .5) _ (w .1 .given .1) (w .4) (w .3 .ensures))
+    (c .match2 .came)
+
 checked-requires : tie.Need-checked-requires
 checked-requires c κs = search needs
 
@@ -52,6 +81,26 @@ returns c =
 
 locate-requires : tie.Need-locate-requires
 locate-requires c κs = search needs
+
+enum-known-place : tie.Need-enum-known-place
+enum-known-place c = search needs
+
+read-requires : tie.Need-read-requires
+read-requires c κs =
+    let l = c .before .before .before in
+    let e = entry (l .before .before) in
+    let g = good (l .before) in
+    there-as (player (e .args .map)) (shadows e) (g .0) (g .1) (e .args .to .0) (l .locate .result) _ (l .locate .ensures) (c .before .place .given .1)
+
+enum-known-place-2 : tie.Need-enum-known-place-2
+enum-known-place-2 c = search needs
+
+read-requires-2 : tie.Need-read-requires-2
+read-requires-2 c κs =
+    let l = c .before .before .before in
+    let e = entry (l .before .before) in
+    let g = good (l .before) in
+    there-as (player (e .args .map)) (shadows e) (g .0) (g .1) (e .args .to .0) (l .locate .result) _ (l .locate .ensures) (c .before .place2 .given .1)
 
 enum-told : tie.Need-enum-told
 enum-told c = search needs
@@ -72,6 +121,28 @@ returns-2 c =
 locate-requires-2 : tie.Need-locate-requires-2
 locate-requires-2 c κs = search needs
 
+enum-known-source : tie.Need-enum-known-source
+enum-known-source c = search needs
+
+read-requires-3 : tie.Need-read-requires-3
+read-requires-3 c κs =
+    let k = c .before .before .before in
+    let i = k .before .before .before in
+    let e = entry (i .before) in
+    let g = good i in
+    there-as (player (e .args .map)) (shadows e) (g .0) (g .1) (e .args .from .0) (k .locate2 .result) _ (k .locate2 .ensures) (c .before .source .given .1)
+
+enum-known-source-2 : tie.Need-enum-known-source-2
+enum-known-source-2 c = search needs
+
+read-requires-4 : tie.Need-read-requires-4
+read-requires-4 c κs =
+    let k = c .before .before .before in
+    let i = k .before .before .before in
+    let e = entry (i .before) in
+    let g = good i in
+    there-as (player (e .args .map)) (shadows e) (g .0) (g .1) (e .args .from .0) (k .locate2 .result) _ (k .locate2 .ensures) (c .before .source2 .given .1)
+
 enum-told-2 : tie.Need-enum-told-2
 enum-told-2 c = search needs
 
@@ -82,60 +153,43 @@ returns-3 : tie.Need-returns-3
 returns-3 c =
     let k = c .before .before .before in
     let o = k .before in
-    let l = o .before in
-    let e = entry (l .before .before) in
-    let g = good (l .before) in
+    let i = o .before .before in
+    let e = entry (i .before) in
+    let g = good i in
+    let t = there o in
     let n = c .refused3 .ensures in (
-      n ∙ copy-number-from (e .args .map) (shadows e) (cells e) (g .0) (g .1) (g .2) (e .args .to .0) (e .args .from .0) (l .locate .result) (l .locate .ensures)
-          (in-area _ (o .match .keys2)) (rw (c .before .enum-told2 .given .1) at (k .locate2 .ensures)),
+      n ∙ copy-number-from (e .args .map) (shadows e) (cells e) (g .0) (g .1) (g .2) (e .args .to .0) (e .args .from .0) (o .match .place) (t .0 .0)
+          (t .1) (rw (c .before .enum-told2 .given .1) at (k .locate2 .ensures)),
       λ z. absurd (omega (arith, n, z)),
     )
-
-reading-requires : tie.Need-reading-requires
-reading-requires c κs =
-    let l = c .before .before .before in
-    let e = entry (l .before .before) in
-    let g = good (l .before) in
-    there (player (e .args .map)) (shadows e) (g .0) (g .1) (e .args .to .0) (l .locate .result) (l .locate .ensures)
-
-reading-requires-2 : tie.Need-reading-requires-2
-reading-requires-2 c κs =
-    let k = c .before .before in
-    let l = k .before .before in
-    let e = entry (l .before .before) in
-    let g = good (l .before) in
-    there (player (e .args .map)) (shadows e) (g .0) (g .1) (e .args .from .0) (k .locate2 .result) (k .locate2 .ensures)
 
 copy-refusal-requires : tie.Need-copy-refusal-requires
 copy-refusal-requires c κs = search needs
 
 referent-requires : tie.Need-referent-requires
 referent-requires c κs =
-    let p = c .before .before .before in
-    let k = p .before in
-    let l = k .before .before in
-    let e = entry (l .before .before) in
-    let g = good (l .before) in
-    cell-at (e .args .map) (shadows e) (cells e) (g .0) (g .1) (g .2) (e .args .from .0) (k .locate2 .result) (k .locate2 .ensures) (in-area _ (p .match2 .keys2))
+    let m = c .before in
+    let i = m .before .before .before .before in
+    let e = entry (i .before) in
+    let g = good i in
+    let h = held m in
+    cell-at (e .args .map) (shadows e) (cells e) (g .0) (g .1) (g .2) (e .args .from .0) (m .match2 .source) (h .0 .0) (h .1)
 
 returns-4 : tie.Need-returns-4
 returns-4 c =
     let n = c .before in
-    let q = n .before in
-    let r = q .before in
-    let p = r .before in
-    let k = p .before in
-    let o = k .before in
-    let l = o .before in
-    let e = entry (l .before .before) in
-    let g = good (l .before) in
-    let i = in-area _ (o .match .keys2) in
-    let j = in-area _ (p .match2 .keys2) in (
-      copy-number (e .args .map) (shadows e) (cells e) (g .0) (g .1) (g .2) (e .args .to .0) (e .args .from .0) (l .locate .result) (k .locate2 .result)
-          (l .locate .ensures) (k .locate2 .ensures) i j _ _ (r .reading .ensures) (q .reading2 .ensures) _ (n .copy-refusal .ensures),
+    let m = n .before in
+    let o = m .before .before in
+    let i = o .before .before in
+    let e = entry (i .before) in
+    let g = good i in
+    let t = there o in
+    let h = held m in (
+      copy-number (e .args .map) (shadows e) (cells e) (g .0) (g .1) (g .2) (e .args .to .0) (e .args .from .0) (o .match .place) (m .match2 .source)
+          (t .0 .0) (h .0 .0) (t .1) (h .1) _ _ (t .0 .1) (h .0 .1) _ (n .copy-refusal .ensures),
       λ z. (
-        (l .locate .ensures, cell-at (e .args .map) (shadows e) (cells e) (g .0) (g .1) (g .2) (e .args .to .0) (l .locate .result) (l .locate .ensures) i),
-        c .referent .ensures ∙ sym (referent-at (e .args .map) (cells e) (e .args .from .0) (k .locate2 .result) (k .locate2 .ensures) j),
+        (t .0 .0, cell-at (e .args .map) (shadows e) (cells e) (g .0) (g .1) (g .2) (e .args .to .0) (o .match .place) (t .0 .0) (t .1)),
+        c .referent .ensures ∙ sym (referent-at (e .args .map) (cells e) (e .args .from .0) (m .match2 .source) (h .0 .0) (h .1)),
       ),
     )
 
@@ -147,15 +201,21 @@ check-spec =
     refused-requires
     returns
     locate-requires
+    enum-known-place
+    read-requires
+    enum-known-place-2
+    read-requires-2
     enum-told
     refused-requires-2
     returns-2
     locate-requires-2
+    enum-known-source
+    read-requires-3
+    enum-known-source-2
+    read-requires-4
     enum-told-2
     refused-requires-3
     returns-3
-    reading-requires
-    reading-requires-2
     copy-refusal-requires
     referent-requires
     returns-4)

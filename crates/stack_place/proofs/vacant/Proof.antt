@@ -1,6 +1,5 @@
 -- `stack_place::vacant` meets its contract: an or of two words is zero where the bytes of both are. Assumes nothing.
 use mathlib.Core.Path.{_≡_, _∙_}
-use mathlib.Core.Bool.{_&&_}
 use mathlib.Core.List.{List}
 use Prim.Native.Nat.{ℕ}
 use lib.Bits.{bitOr}
