@@ -36,13 +36,16 @@ fn written_heap(form: Form, heap: &[u8], p: Position, n: u32) -> Answer
     monitor_yes_no::apart(first, Reading::Nothing)
 }
 
-// In the stack.
+// In the stack, where a whole block of four or eight written bytes needs no reading.
 fn written_stack(primary: &[u8], secondary: &[u8], p: Position, n: u32) -> Answer
     requires { ⌜ (p .0 < length (now primary)) × (length (now primary) ≡ length (now secondary)) × (length (now primary) ≤ 65536) ⌝ }
     ensures { λ r. ⌜ answerOf r
         ≡ initialisedAnswer n (stackReading (length (now (primary .entry))) (at (now (primary .entry))) (at (now (secondary .entry))) (p .0))
         (rangeMarked (stackOps (length (now (primary .entry)))) (now (primary .entry), now (secondary .entry)) (p .0) n) ⌝ }
 {
+    if stack_whole::written(primary, p, n) {
+        return monitor_yes_no::yes_no(true);
+    }
     let first = stack_read::read(primary, secondary, p);
     if monitor_reading::in_one(first, n) {
         return monitor_yes_no::yes_no(stack_marked::marked(primary, p, n));

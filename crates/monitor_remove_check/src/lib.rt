@@ -30,7 +30,14 @@ pub fn check(
         × Removable (under form map) (now (heap .entry), (now (primary .entry), now (secondary .entry))) (base .0) r ⌝ }
 {
     match locate(map, base) {
-        Located::Stack(p) => ending(stack_read::read(primary, secondary, p), p),
+        Located::Stack(p) => {
+            // A block of four or eight bytes needs no reading.
+            let n = stack_whole_first::length_at(primary, p);
+            if n != 0 {
+                return Ending::Block(p, n);
+            }
+            ending(stack_read::read(primary, secondary, p), p)
+        }
         Located::Heap(_) => Ending::Settled(4),
         Located::Outside => Ending::Settled(4),
     }

@@ -79,10 +79,15 @@ pub fn check(
             Located::Heap(p),
         ),
         Located::Stack(p) => {
-            // The reading takes the reference from memory: this one is stored here alone, and not where the heap is read too.
-            let lent = secondary;
+            // A whole block of four or eight bytes needs no reading.
+            if stack_whole::plain(primary, p, n) {
+                return Checked {
+                    number: 0,
+                    place: Located::Stack(p),
+                };
+            }
             in_area(
-                refused(stack_read::read(primary, lent, p), n, true),
+                refused(stack_read::read(primary, secondary, p), n, true),
                 Located::Stack(p),
             )
         }

@@ -1,7 +1,8 @@
-pub mod ReadLaws
+pub mod CodeLaws
 pub mod FillLaws
 pub mod MarkLaws
-pub mod CodeLaws
-pub mod TableLaws
+pub mod ReadLaws
 pub mod StampLaws
+pub mod TableLaws
+pub mod WholeLaws
 pub mod WordLaws

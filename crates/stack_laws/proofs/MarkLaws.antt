@@ -1,20 +1,20 @@
 -- The written bits of a run of primary bytes, one by one and as one word; the secondary has no part in them. Assumes nothing.
 use mathlib.Core.Path.{_≡_, refl, ap, _∙_}
-use mathlib.Core.Bool.{_&&_}
+use mathlib.Core.Bool.{true, _&&_}
 use mathlib.Core.Bool as bool
 use mathlib.Core.List.{List}
-use Prim.Native.Nat.{ℕ, zero, suc, _+_, _-_, _/_, _%_, _≤_, _<_}
+use Prim.Native.Nat.{ℕ, zero, suc, _+_, _-_, _*_, _/_, _%_, _≤_, _<_}
 use native.Mathlib.Omega.{arith}
-use native.Mathlib.Nat.{add-zero}
+use native.Mathlib.Nat.{add-zero, add-suc, suc-add}
 use native.Mathlib.Numerals.{add-one}
 use lib.ListN.{length, set, length-set}
-use lib.Bits.{bitAnd, bitOr, or-step, or-zero-r, and-comm, and-mask}
+use lib.Bits.{bitAnd, bitOr, or-step, or-zero-r, or-block, and-comm, and-mask}
 use lib.Dec.{eqb, lit<}
 use Rattle.number.specs.Little.{byteOf, word}
 use Rattle.number.specs.Parts.{at, over}
 use Rattle.number.proofs.TestLaws.{same-digits}
 use Rattle.number.proofs.PartLaws.{over-above, over-ext, over-more, over-next, over-none}
-use Rattle.number.proofs.WordLaws.{AllBytes, byteOf-or, byteOf-word, word-and}
+use Rattle.number.proofs.WordLaws.{AllBytes, byteOf-word, word-and}
 use Rattle.plain.specs.Ops.{markRange, rangeMarked}
 use Rattle.plain.proofs.MarkedLaws.{range-same, marked-next}
 use Rattle.stack_layout.specs.Ops.{StackShadows, withWritten, stackMark, stackMarked, stackOps}
@@ -28,17 +28,28 @@ mark-one P q h =
     let f : ℕ → ℕ = λ x. withWritten (at P x) in
     rw (over-none q f P, add-zero q) at (over-more q 0 f P (omega arith))
 
+-- a byte stays a byte
+pub written-bytes : (f : ℕ → ℕ) → AllBytes f → AllBytes (λ q. withWritten (f q))
+written-bytes f b q = let h : f q < 256 = b q in omega arith
+
 -- the bits of a word, set at once
+pub word-written : (f : ℕ → ℕ) → AllBytes f → (w q p : ℕ) → bitOr (word f q w) (word (λ i. 1) p w) ≡ word (λ i. withWritten (f i)) q w
+unfolding word
+word-written f b zero q p = refl
+word-written f b (suc w) q p =
+    let r = word (λ i. 1) (suc p) w in
+    let e = or-block 8 (word f (suc q) w) r (f q) 1 (b q) (lit< tt) in
+    let x : f q + 256 * word f (suc q) w ≡ word f (suc q) w * 256 + f q = omega arith in
+    let y : 1 + 256 * r ≡ r * 256 + 1 = omega arith in
+    rw (x, y, e, word-written f b w (suc q) (suc p), or-written (f q)) (omega arith)
+
 pub mark-word : (P : List ℕ) → AllBytes (at P) → (w q v : ℕ) → v ≡ bitOr (word (at P) q w) (word (λ i. 1) 0 w)
     → over q w (λ x. byteOf v (x - q)) P ≡ over q w (λ x. withWritten (at P x)) P
 mark-word P b w q v e =
     over-ext q w (λ x. byteOf v (x - q)) (λ x. withWritten (at P x)) P
-    (λ x y z. let o : q + (x - q) ≡ x = omega arith in rw e (rw o at (byte (x - q) (omega arith))))
-  where
-    byte : (i : ℕ) → i < w → byteOf (bitOr (word (at P) q w) (word (λ i. 1) 0 w)) i ≡ withWritten (at P (q + i))
-    byte i h =
-        byteOf-or (word (at P) q w) (word (λ i. 1) 0 w) i
-        ∙ rw (byteOf-word (at P) b w q i h, byteOf-word (λ i. 1) (λ x. lit< tt) w 0 i h) (or-written (at P (q + i)))
+    (λ x y z.
+    let o : q + (x - q) ≡ x = omega arith in
+    rw (e, word-written (at P) b w q 0) (rw o at (byteOf-word (λ i. withWritten (at P i)) (written-bytes (at P) b) w q (x - q) (omega arith))))
 
 -- bytes marked, and the bytes right after them
 pub over-marked : (P Q R : List ℕ) (q m n : ℕ) → q + m + n ≤ length P → Q ≡ over q m (λ x. withWritten (at P x)) P
@@ -74,6 +85,14 @@ marked-one size P S q = bool.and-true (eqb (at P q % 2) 1)
 pub marked-more : (size : ℕ) (P S : List ℕ) (p n : ℕ)
     → rangeMarked (stackOps size) (P, S) p (n + 1) ≡ (rangeMarked (stackOps size) (P, S) p n && eqb (at P (p + n) % 2) 1)
 marked-more size P S p n = rw (marked-next (stackOps size) (P, S) p n 1, marked-one size P S (p + n))
+
+-- a range is marked where each byte is
+pub marked-each : (size : ℕ) (P S : List ℕ) (p n : ℕ) → ((i : ℕ) → i < n → at P (p + i) % 2 ≡ 1) → rangeMarked (stackOps size) (P, S) p n ≡ true
+unfolding rangeMarked stackMarked
+marked-each size P S p zero h = refl
+marked-each size P S p (suc n) h =
+    let first : at P p % 2 ≡ 1 = rw (add-zero p) at (h 0 (omega arith)) in
+    rw (first, marked-each size P S (suc p) n (λ i k. rw (suc-add p i, ← add-suc p i) (h (suc i) (omega arith))))
 
 -- a bit that has seen only ones sees one more byte
 pub seen-more : (s x : ℕ) → s < 2 → (eqb (bitAnd s x) 1 ≡ (eqb s 1 && eqb (x % 2) 1)) × (bitAnd s x < 2)

@@ -1,0 +1,47 @@
+// Whole blocks of four and of eight bytes, the commonest, found by one comparison, before any reading.
+use map::Position;
+ghost use mathlib.Core.Path.{_≡_};
+ghost use Prim.Native.Nat.{_<_, _≤_};
+ghost use lib.ListN.{length};
+ghost use Rattle.number.specs.Parts.{at};
+ghost use Rattle.stack_laws.specs.Whole.{wholeWritten, wholePlain};
+
+// The primary bytes of a written block of four bytes as one number, and of eight.
+const WRITTEN_4: u32 = 0x2925211d;
+
+const WRITTEN_8: u64 = 0x918d8985817d7975;
+
+// The written bits of four bytes, and of eight.
+const BITS_4: u32 = 0x01010101;
+
+const BITS_8: u64 = 0x0101010101010101;
+
+// Whether the n bytes from p on are a whole block, each written, and no literal. Where they are not, nothing is said of them.
+pub fn written(primary: &[u8], p: Position, n: u32) -> bool
+    requires { ⌜ (p .0 < length (now primary)) × (length (now primary) ≤ 65536) ⌝ }
+    ensures { λ r. ⌜ r ≡ wholeWritten (length (now (primary .entry))) (at (now (primary .entry))) (p .0) n ⌝ }
+{
+    let Position(q) = p;
+    if (n == 4) & (q + 4 <= primary.len()) {
+        return number_words::number_at(primary, q) == WRITTEN_4;
+    }
+    if (n == 8) & (q + 8 <= primary.len()) {
+        return number_words::eight_at(primary, q) == WRITTEN_8;
+    }
+    false
+}
+
+// Whether they are a whole block that is no literal, whatever is written.
+pub fn plain(primary: &[u8], p: Position, n: u32) -> bool
+    requires { ⌜ (p .0 < length (now primary)) × (length (now primary) ≤ 65536) ⌝ }
+    ensures { λ r. ⌜ r ≡ wholePlain (length (now (primary .entry))) (at (now (primary .entry))) (p .0) n ⌝ }
+{
+    let Position(q) = p;
+    if (n == 4) & (q + 4 <= primary.len()) {
+        return number_words::number_at(primary, q) | BITS_4 == WRITTEN_4;
+    }
+    if (n == 8) & (q + 8 <= primary.len()) {
+        return number_words::eight_at(primary, q) | BITS_8 == WRITTEN_8;
+    }
+    false
+}
