@@ -1,6 +1,11 @@
 -- `monitor_remove_check::check` meets its contract: one arm for each area. Assumes nothing.
+use mathlib.Core.Path.{_≡_}
+use Prim.Native.Nat.{_<_, _≤_}
 use native.Mathlib.Omega.{arith}
 use denote.Ref.{now}
+use lib.ListN.{length}
+use Rattle.number.specs.Parts.{at}
+use Rattle.stack_laws.proofs.WholeLaws.{length-read}
 use Rattle.shadows.specs.Shadows.{Shadows}
 use Rattle.monitor_base.specs.Locating.{Lies}
 use Rattle.monitor_base.specs.declared.Located.{Located}
@@ -38,14 +43,31 @@ locate-requires c κs = search needs
 enum-known-p : tie.Need-enum-known-p
 enum-known-p c = search needs
 
-read-requires : tie.Need-read-requires
-read-requires c κs =
-    let p = c .before in
-    let l = p .before .before in
-    let e = entry l in
+-- what a call on the two stack shadows asks for
+there : (c : tie.After-p) → let a = entry (c .before .before) .args in
+    (c .p .given .0 .0 .0 < length (now (a .primary))) × (length (now (a .primary)) ≡ length (now (a .secondary))) × (length (now (a .primary)) ≤ 65536)
+there c =
+    let e = entry (c .before .before) in
+    let g = e .pre in
+    let h = in-stack c in
+    stack-there (under (e .args .form) (e .args .map)) (shadows e) (g .0) (g .1) (e .args .base .0) _ (h .0) (h .1)
+
+length-at-requires : tie.Need-length-at-requires
+length-at-requires c κs = let t = there (c .before) in (t .0, t .2)
+
+-- a block of four or eight bytes, by its first
+returns : tie.Need-returns
+returns c =
+    let x = c .before in
+    let p = x .before .before in
+    let e = entry (p .before .before) in
     let g = e .pre in
     let h = in-stack p in
-    stack-there (under (e .args .form) (e .args .map)) (shadows e) (g .0) (g .1) (e .args .base .0) _ (h .0) (h .1)
+    let r = length-read _ (at (now (e .args .primary))) (at (now (e .args .secondary))) (p .p .given .0 .0 .0) (x .length-at .result) (x .length-at .ensures) (c .if1 .taken) in
+    (rw r at (stack-removed (under (e .args .form) (e .args .map)) (shadows e) (e .args .base .0) (g .0) (g .1) _ h), rw r at (removable (under (e .args .form) (e .args .map)) (shadows e) (e .args .base .0) (g .0) (g .1) _ h))
+
+read-requires : tie.Need-read-requires
+read-requires c κs = there (c .before .before .before)
 
 ending-requires : tie.Need-ending-requires
 ending-requires c κs = search needs
@@ -56,25 +78,25 @@ enum-told c = search needs
 enum-told-2 : tie.Need-enum-told-2
 enum-told-2 c = search needs
 
-returns : tie.Need-returns
-returns c =
+returns-2 : tie.Need-returns-2
+returns-2 c =
     let x = c .before in
-    let p = x .before .before in
+    let p = x .before .before .before .before in
     let l = p .before .before in
     let e = entry l in
     let g = e .pre in
     let h = in-stack p in
     rw (c .ending .ensures, x .read .ensures) (stack-removed (under (e .args .form) (e .args .map)) (shadows e) (e .args .base .0) (g .0) (g .1) _ h, removable (under (e .args .form) (e .args .map)) (shadows e) (e .args .base .0) (g .0) (g .1) _ h)
 
-returns-2 : tie.Need-returns-2
-returns-2 c =
+returns-3 : tie.Need-returns-3
+returns-3 c =
     let l = c .before .before in
     let e = entry l in
     let g = e .pre in
     (heap-removed (under (e .args .form) (e .args .map)) (shadows e) (e .args .base .0) (g .0) (g .1) _ (in-heap c), λ z. omega arith)
 
-returns-3 : tie.Need-returns-3
-returns-3 c =
+returns-4 : tie.Need-returns-4
+returns-4 c =
     let l = c .before .before in
     let e = entry l in
     let g = e .pre in
@@ -86,10 +108,12 @@ check-spec =
     (tie.spec
     locate-requires
     enum-known-p
+    length-at-requires
+    returns
     read-requires
     ending-requires
     enum-told
     enum-told-2
-    returns
     returns-2
-    returns-3)
+    returns-3
+    returns-4)
