@@ -1,10 +1,16 @@
 -- `monitor_written_check::check` meets its contract: one arm for each area. Assumes nothing.
 use mathlib.Core.Path.{_≡_, refl, sym, ap, _∙_}
 use mathlib.Core.Bool.{true, false}
+use Prim.Native.Nat.{ℕ, _<_, _≤_}
 use native.Mathlib.Omega.{arith}
+use native.Mathlib.Nat.{zero-add}
 use denote.Ref.{now}
+use lib.ListN.{length}
+use Rattle.number.specs.Parts.{at}
 use Rattle.map.specs.Map.{goodMap}
 use Rattle.plain.specs.Call.{written}
+use Rattle.plain.specs.Reading.{Reading, block}
+use Rattle.stack_laws.proofs.WholeLaws.{plain-read}
 use Rattle.shadows.specs.Shadows.{Shadows, lengthsFit}
 use Rattle.monitor_base.specs.Locating.{Lies}
 use Rattle.monitor_base.specs.declared.Located.{Located}
@@ -15,6 +21,7 @@ use Rattle.monitor_write_laws.specs.AreaCalls.{writtenRefusal}
 use Rattle.monitor_write_laws.proofs.CheckLaws.{number-early}
 use Rattle.monitor_write_laws.proofs.WrittenChecks.{written-number-3, written-number-4, written-heap, written-stack, area-found}
 use borrow.Author.Needs.{needs}
+use borrow.Author.Tests.{le-leb}
 use Rattle.map.specs.FormMap.{under}
 use Rattle.monitor_written_check.proofs.check.Statement.{statement}
 use Rattle.monitor_written_check.proofs.check.Tie as tie
@@ -82,14 +89,39 @@ in-area-requires c κs = search needs
 enum-known-p-2 : tie.Need-enum-known-p-2
 enum-known-p-2 c = search needs
 
-read-requires-2 : tie.Need-read-requires-2
-read-requires-2 c κs =
-    let p = c .before in
+-- what a call on the two stack shadows asks for
+there : (c : tie.After-p2) → let a = entry (c .before .before .before .before .before) .args in
+    (c .p2 .given .0 .0 .0 < length (now (a .primary))) × (length (now (a .primary)) ≡ length (now (a .secondary))) × (length (now (a .primary)) ≤ 65536)
+there c =
+    let l = c .before .before in
+    let e = entry (l .before .before .before) in
+    let g = good-fit (l .before .before) in
+    let h = in-stack c in
+    stack-there (under (e .args .form) (e .args .map)) (shadows e) (g .0) (g .1) (e .args .a .0) _ (h .0) (h .1)
+
+plain-requires : tie.Need-plain-requires
+plain-requires c κs = let t = there (c .before) in (t .0, t .2)
+
+-- n bytes that are a whole block, which is no literal
+whole-passed : (n p w : ℕ) (r : Reading) → r ≡ block p n 0 w false → 0 ≡ writtenRefusal true n r
+whole-passed n p w r e = rw (e, zero-add n, le-leb n n (omega arith))
+
+returns-3 : tie.Need-returns-3
+returns-3 c =
+    let x = c .before in
+    let p = x .before .before in
     let l = p .before .before in
     let e = entry (l .before .before .before) in
     let g = good-fit (l .before .before) in
     let h = in-stack p in
-    stack-there (under (e .args .form) (e .args .map)) (shadows e) (g .0) (g .1) (e .args .a .0) _ (h .0) (h .1)
+    let b = l .before .before .before .before .before .shared-slice-known2 .given in
+    let r = plain-read _ (at (now (e .args .primary))) (at (now (e .args .secondary))) (λ q. b q .fits) (p .p2 .given .0 .0 .0) (e .args .n) (sym (x .plain .ensures) ∙ c .if3 .taken) in
+    area-found (under (e .args .form) (e .args .map)) (shadows e) (e .args .a .0) (e .args .n) 0
+    (whole-passed (e .args .n) _ _ _ r ∙ written-stack (under (e .args .form) (e .args .map)) (shadows e) (e .args .a .0) (e .args .n) (g .0) (g .1) (l .before .if2 .left) _ (h .0) (h .1))
+    (Stack _) h 0 refl (Stack _) (λ z. refl) (λ n. absurd (n refl))
+
+read-requires-2 : tie.Need-read-requires-2
+read-requires-2 c κs = there (c .before .before .before)
 
 refused-requires-2 : tie.Need-refused-requires-2
 refused-requires-2 c κs = search needs
@@ -100,8 +132,8 @@ in-area-requires-2 c κs = search needs
 enum-told : tie.Need-enum-told
 enum-told c = search needs
 
-returns-3 : tie.Need-returns-3
-returns-3 c =
+returns-4 : tie.Need-returns-4
+returns-4 c =
     let x = c .before .before in
     let p = x .before .before in
     let l = p .before .before in
@@ -112,10 +144,10 @@ returns-3 c =
     (c .before .refused .ensures ∙ ap (writtenRefusal false (e .args .n)) (x .read .ensures) ∙ written-heap (under (e .args .form) (e .args .map)) (shadows e) (e .args .a .0) (e .args .n) (g .0) (g .1) (l .before .if2 .left) _ (h .0) (h .1))
     (Heap _) h _ (c .in-area .ensures .0) (c .in-area .result .place) (c .in-area .ensures .1) (c .in-area .ensures .2)
 
-returns-4 : tie.Need-returns-4
-returns-4 c =
+returns-5 : tie.Need-returns-5
+returns-5 c =
     let x = c .before .before in
-    let p = x .before .before in
+    let p = x .before .before .before .before in
     let l = p .before .before in
     let e = entry (l .before .before .before) in
     let g = good-fit (l .before .before) in
@@ -124,8 +156,8 @@ returns-4 c =
     (c .before .refused2 .ensures ∙ ap (writtenRefusal true (e .args .n)) (x .read2 .ensures) ∙ written-stack (under (e .args .form) (e .args .map)) (shadows e) (e .args .a .0) (e .args .n) (g .0) (g .1) (l .before .if2 .left) _ (h .0) (h .1))
     (Stack _) h _ (c .in-area2 .ensures .0) (c .in-area2 .result .place) (c .in-area2 .ensures .1) (c .in-area2 .ensures .2)
 
-returns-5 : tie.Need-returns-5
-returns-5 c =
+returns-6 : tie.Need-returns-6
+returns-6 c =
     let l = c .before .before in
     let e = entry (l .before .before .before) in
     let g = good-fit (l .before .before) in
@@ -144,10 +176,12 @@ check-spec =
     refused-requires
     in-area-requires
     enum-known-p-2
+    plain-requires
+    returns-3
     read-requires-2
     refused-requires-2
     in-area-requires-2
     enum-told
-    returns-3
     returns-4
-    returns-5)
+    returns-5
+    returns-6)
