@@ -6,6 +6,7 @@ use mathlib.Core.List.{List}
 use Prim.Native.Nat.{ℕ, _+_, _*_, _/_, _%_, _≤_, _<_}
 use native.Mathlib.Omega.{arith}
 use native.Mathlib.Nat.{add-zero, zero-add, sub-zero, mod-lt}
+use lib.Bits.{bitOr}
 use lib.Dec.{leb, eqb, lit<}
 use borrow.Author.Tests.{eq-eqb, ne-eqb, le-leb, le-ltb, eqb-true, leb-true}
 use Rattle.number.specs.Little.{word}
@@ -22,7 +23,7 @@ use Rattle.stack_layout.specs.Reading.{fitted, codeReading, stackReading}
 use Rattle.stack_layout.proofs.TableLaws.{Encoded, encoded}
 use Rattle.stack_layout.proofs.CodeLaws.{code-lt, Apart, primary-apart}
 use Rattle.stack_laws.specs.Whole.{wholeWritten, wholePlain, wholeFrom, wholeLength}
-use Rattle.stack_laws.proofs.MarkLaws.{written-bytes, marked-each}
+use Rattle.stack_laws.proofs.MarkLaws.{written-bytes, word-written, marked-each}
 
 -- ---- the constants of the code
 
@@ -35,6 +36,15 @@ pub word-8 : word (λ i. primaryOf 8 i 1) 0 8 ≡ 10488190313711892853
 unfolding word primaryOf codeOf shortCode
 word-8 = refl
 
+-- their written bits
+pub bits-4 : word (λ i. 1) 0 4 ≡ 16843009
+unfolding word
+bits-4 = refl
+
+pub bits-8 : word (λ i. 1) 0 8 ≡ 72340172838076673
+unfolding word
+bits-8 = refl
+
 -- the codes of their first bytes
 pub code-4 : codeOf 4 0 ≡ 7
 unfolding codeOf shortCode
@@ -46,15 +56,19 @@ code-8 = refl
 
 -- ---- the tests of the code
 
+-- where n is k and fits, k fits
+pub whole-fits : (size p n k : ℕ) → (eqb n k && leb (p + k) size) ≡ true → p + k ≤ size
+whole-fits size p n k e = leb-true (p + k) size (and-true (eqb n k) (leb (p + k) size) e .1)
+
 module _ (size : ℕ) (f : ℕ → ℕ) (p n : ℕ) where
-  -- n is one of the two lengths, and fits
-  pub whole-of : (k : ℕ) → (eqb k 4 || eqb k 8) ≡ true → (eqb n k && leb (p + k) size) ≡ true
-      → wholeWritten size f p n ≡ eqb (word f p k) (word (λ i. primaryOf k i 1) 0 k)
+  -- n is one of the two lengths, and fits: the word v is compared with the block's
+  pub whole-of : (k v w : ℕ) → (eqb k 4 || eqb k 8) ≡ true → (eqb n k && leb (p + k) size) ≡ true → v ≡ word f p k → w ≡ word (λ i. primaryOf k i 1) 0 k
+      → eqb v w ≡ wholeWritten size f p n
   unfolding wholeWritten
-  whole-of k w e =
+  whole-of k v w o e a b =
       let t = and-true (eqb n k) (leb (p + k) size) e in
       let q : n ≡ k = eqb-true n k (t .0) in
-      rw (q, w, t .1)
+      rw (q, o, t .1, a, b)
 
   -- it is neither, or does not fit
   pub whole-none : (eqb n 4 && leb (p + 4) size) ≡ false → (eqb n 8 && leb (p + 8) size) ≡ false → wholeWritten size f p n ≡ false
@@ -68,6 +82,17 @@ module _ (size : ℕ) (f : ℕ → ℕ) (p n : ℕ) where
           or-case (eqb n 4) (eqb n 8) (u .0)
           (λ x. not-both (eqb n 4 && leb (p + 4) size) (rw (x, ← (eqb-true n 4 x)) (u .1)) a)
           (λ x. not-both (eqb n 8 && leb (p + 8) size) (rw (x, ← (eqb-true n 8 x)) (u .1)) b)
+
+-- the same with the written bits set first, by a mask m
+module _ (size : ℕ) (f : ℕ → ℕ) (bytes : AllBytes f) (p n : ℕ) where
+  pub plain-of : (k v m w : ℕ) → (eqb k 4 || eqb k 8) ≡ true → (eqb n k && leb (p + k) size) ≡ true → v ≡ word f p k → m ≡ word (λ i. 1) 0 k
+      → w ≡ word (λ i. primaryOf k i 1) 0 k → eqb (bitOr v m) w ≡ wholePlain size f p n
+  unfolding wholePlain
+  plain-of k v m w o e a c b = whole-of size (λ q. withWritten (f q)) p n k (bitOr v m) w o e (rw (a, c) (word-written f bytes k p 0)) b
+
+  pub plain-none : (eqb n 4 && leb (p + 4) size) ≡ false → (eqb n 8 && leb (p + 8) size) ≡ false → wholePlain size f p n ≡ false
+  unfolding wholePlain
+  plain-none = whole-none size (λ q. withWritten (f q)) p n
 
 -- ---- what is read
 
