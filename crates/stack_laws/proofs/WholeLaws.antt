@@ -8,7 +8,7 @@ use native.Mathlib.Omega.{arith}
 use native.Mathlib.Nat.{add-zero, zero-add, sub-zero, mod-lt}
 use lib.Bits.{bitOr}
 use lib.Dec.{leb, eqb, lit<}
-use borrow.Author.Tests.{eq-eqb, ne-eqb, le-leb, le-ltb, eqb-true, leb-true}
+use borrow.Author.Tests.{ne-eqb, le-leb, le-ltb, eqb-true, leb-true}
 use Rattle.number.specs.Little.{word}
 use Rattle.number.specs.Parts.{at}
 use Rattle.number.proofs.LittleLaws.{word-same}
