@@ -1,4 +1,4 @@
--- `heap_marked::marked_from` meets its contract: the whole range is marked exactly if what is left of it is. Assumes nothing.
+-- `heap_marked_from::marked_rest` meets its contract: the whole range is marked exactly if what is left of it is. Assumes nothing.
 use mathlib.Core.Path.{_≡_, refl, sym, _∙_}
 use mathlib.Core.Bool.{_&&_}
 use Prim.Native.Nat.{_≤_, _-_, _+_, _%_}
@@ -10,8 +10,8 @@ use Rattle.plain.specs.Ops.{rangeMarked}
 use Rattle.plain.proofs.MarkedLaws.{marked-none}
 use Rattle.heap_layout.specs.Ops.{heapOps}
 use Rattle.heap_laws.proofs.MarkLaws.{marked-part, marked-first}
-use Rattle.heap_marked.proofs.marked_from.Statement.{statement}
-use Rattle.heap_marked.proofs.marked_from.Tie as tie
+use Rattle.heap_marked_from.proofs.marked_rest.Statement.{statement}
+use Rattle.heap_marked_from.proofs.marked_rest.Tie as tie
 
 abbrev Inv-loop : tie.InvT-loop
 Inv-loop heap e at₀ at =
@@ -88,8 +88,8 @@ returns-3 c =
     let l = c .before .before .loop in
     sym (l .inv .2 ∙ marked-none (heapOps 4 8 (length (now (a .heap)))) (now (a .heap)) (l .at) (a .end .0 - l .at) (omega arith))
 
-pub marked-from-spec : {M : Type 1} → statement M
-marked-from-spec =
+pub marked-rest-spec : {M : Type 1} → statement M
+marked-rest-spec =
     tie.close
     (tie.spec
     Inv-loop
