@@ -1,18 +1,16 @@
 // How far the search for the next block goes on past an address: readings that are settled already are not taken.
 ghost use mathlib.Core.Path.{_≡_};
 ghost use mathlib.Core.Bool.{true};
-ghost use Prim.Native.Nat.{_+_, _≤_, _<_, max};
+ghost use Prim.Native.Nat.{_+_, _≤_, max};
 ghost use lib.ListN.{length};
-ghost use Rattle.number.specs.Parts.{at};
 ghost use Rattle.map.specs.FormMap.{under};
 ghost use Rattle.map.specs.Map.{goodMap};
 ghost use Rattle.monitor_base.specs.Locating.{Lies};
-ghost use Rattle.monitor_read_laws.specs.Climbed.{FreeBytes, startAbove, Skips};
+ghost use Rattle.monitor_read_laws.specs.Climbed.{startAbove, Skips};
 use map::Address;
 use map::Area;
 use map::Form;
 use map::Map;
-use map::Position;
 use monitor_base::Located;
 
 // The end of the areas: no address from it on lies in one.
@@ -26,22 +24,6 @@ pub fn top(map: Map) -> Address
         return stack;
     }
     heap
-}
-
-// Past a position, and the bytes after it that are 0, as far as eight bytes at a time show it.
-fn past_bytes(primary: &[u8], p: Position) -> Position
-    requires { ⌜ (p .0 < length (now primary)) × (length (now primary) ≤ 65536) ⌝ }
-    ensures { λ r. ⌜ FreeBytes (length (now (primary .entry))) (at (now (primary .entry))) (p .0) (r .0) ⌝ }
-{
-    let mut at = p.0 + 1;
-    while at + 8 <= primary.len() {
-        let eight = number_words::eight_at(primary, at);
-        if eight != 0 {
-            return Position(at + (number_bits::zero_bytes(eight) as usize));
-        }
-        at += 8;
-    }
-    Position(at)
 }
 
 // Past what lies outside both areas.
@@ -72,7 +54,10 @@ pub fn past(form: Form, map: Map, heap: &[u8], primary: &[u8], a: Address, l: Lo
             heap_forms::past_segments(form, heap, p),
             Address(map.heap_start),
         ),
-        Located::Stack(p) => map::to_address(past_bytes(primary, p), Address(map.stack_start)),
+        Located::Stack(p) => map::to_address(
+            monitor_climb_bytes::past_bytes(primary, p),
+            Address(map.stack_start),
+        ),
         Located::Outside => start_above(map, a),
     }
 }

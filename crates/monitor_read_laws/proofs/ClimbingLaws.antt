@@ -8,7 +8,7 @@ use lib.Dec.{leb, ltb, eqb}
 use native.Mathlib.Nat.{zero-add, div-add-mod', div-eq-of-lt-le}
 use borrow.Author.Tests.{eq-eqb, eqb-true, eqb-false, ltb-true, ltb-false}
 use Rattle.number.specs.Little.{byteOf, word}
-use Rattle.number.specs.Parts.{runOf}
+use Rattle.number.specs.Parts.{zeros, runOf}
 use Rattle.number.proofs.PartLaws.{zeros-at}
 use Rattle.number.proofs.RunLaws.{run-le, run-at}
 use Rattle.number.proofs.WordLaws.{AllBytes, byteOf-word}
@@ -174,10 +174,13 @@ zero-more f lo q n free more x i j = go (test (ltb x q))
     go (is-true t) = free x i (ltb-true x q t)
     go (is-false t) = let h = ltb-false x q t in let z : q + (x - q) ≡ x = omega arith in rw z at (more (x - q) (omega arith))
 
+pub zero-run : (f : ℕ → ℕ) (lo q n : ℕ) → ((x : ℕ) → lo ≤ x → x < q → f x ≡ 0) → zeros f q n ≡ true → (x : ℕ) → lo ≤ x → x < q + n → f x ≡ 0
+zero-run f lo q n free e = zero-more f lo q n free (λ i h. zeros-at f q n i e h)
+
 -- eight, as one number that is 0
 pub zero-eight : (f : ℕ → ℕ) (lo q v : ℕ) → ((x : ℕ) → lo ≤ x → x < q → f x ≡ 0) → v ≡ word f q 8 → v ≡ 0
     → (x : ℕ) → lo ≤ x → x < q + 8 → f x ≡ 0
-zero-eight f lo q v free e z = zero-more f lo q 8 free (λ i h. zeros-at f q 8 i (sym (zero-word f q 8) ∙ eq-eqb (word f q 8) 0 (sym e ∙ z)) h)
+zero-eight f lo q v free e z = zero-run f lo q 8 free (sym (zero-word f q 8) ∙ eq-eqb (word f q 8) 0 (sym e ∙ z))
 
 -- the low ones of eight, as the bytes of that number that are 0
 pub zero-low : (f : ℕ → ℕ) → AllBytes f → (lo q v r : ℕ) → ((x : ℕ) → lo ≤ x → x < q → f x ≡ 0) → v ≡ word f q 8 → r ≡ runOf (λ j. eqb (byteOf v j) 0) 0 8
