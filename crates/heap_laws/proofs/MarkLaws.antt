@@ -28,6 +28,10 @@ module _ (W G size : ℕ) (h : List ℕ) (p n k j : ℕ) (x : j + n ≤ 8) (y : 
   pub marked-part : (b : Bool) → b ≡ bitsSet (at h k) j n → rangeMarked (heapOps W G size) h p n ≡ b
   marked-part b q = rw q (marked-byte W G size h p n k j x y u v)
 
+  -- m positions from q on come before
+  pub marked-after : (q m : ℕ) (a b : Bool) → p ≡ q + m → rangeMarked (heapOps W G size) h q m ≡ a → b ≡ bitsSet (at h k) j n → rangeMarked (heapOps W G size) h q (m + n) ≡ (a && b)
+  marked-after q m a b w e f = marked-next (heapOps W G size) h q m n ∙ rw (e, ← w, marked-part b f)
+
   -- r positions follow
   module _ (m r : ℕ) (w : m ≡ n + r) where
     pub mark-first : (b : ℕ) → k < length h → b ≡ withBits (at h k) j n → markRange (heapOps W G size) h p m ≡ markRange (heapOps W G size) (set h k b) (p + n) r

@@ -1,17 +1,10 @@
 -- `heap_marked_from::four_marked` meets its contract: one segment, and one more, and one more, and one more. Assumes nothing.
-use mathlib.Core.Path.{_≡_, sym, _∙_}
-use mathlib.Core.Bool.{Bool, _&&_}
-use mathlib.Core.List.{List}
-use Prim.Native.Nat.{ℕ, _+_, _%_}
+use mathlib.Core.Path.{sym}
+use Prim.Native.Nat.{_+_}
 use native.Mathlib.Omega.{arith}
 use denote.Ref.{now}
 use lib.ListN.{length}
-use Rattle.number.specs.Bits.{bitsSet}
-use Rattle.number.specs.Parts.{at}
-use Rattle.plain.specs.Ops.{rangeMarked}
-use Rattle.plain.proofs.MarkedLaws.{marked-next}
-use Rattle.heap_layout.specs.Ops.{heapOps}
-use Rattle.heap_laws.proofs.MarkLaws.{marked-part}
+use Rattle.heap_laws.proofs.MarkLaws.{marked-part, marked-after}
 use borrow.Author.Needs.{needs}
 use Rattle.heap_marked_from.proofs.four_marked.Statement.{statement}
 use Rattle.heap_marked_from.proofs.four_marked.Tie as tie
@@ -52,13 +45,6 @@ shared-slice-read-bits-set-4 c = search needs
 bits-set-requires-4 : tie.Need-bits-set-requires-4
 bits-set-requires-4 c κs = search needs
 
--- one segment more, whose byte is at k
-more : (h : List ℕ) (p m k : ℕ) (a b : Bool) → p % 8 ≡ 0 → m % 8 ≡ 0 → k ≡ p + m + 4 → rangeMarked (heapOps 4 8 (length h)) h p m ≡ a → b ≡ bitsSet (at h k) 0 8
-    → rangeMarked (heapOps 4 8 (length h)) h p (m + 8) ≡ (a && b)
-more h p m k a b u v w x y =
-    let e : rangeMarked (heapOps 4 8 (length h)) h (p + m) 8 ≡ b = marked-part 4 8 (length h) h (p + m) 8 k 0 (omega arith) (omega arith) (omega arith) (omega arith) b y in
-    marked-next (heapOps 4 8 (length h)) h p m 8 ∙ rw (x, e)
-
 returns : tie.Need-returns
 returns c =
     let three = c .before .before in
@@ -66,11 +52,12 @@ returns c =
     let one = two .before .before in
     let e = one .before .before .before in
     let h = now (e .args .heap) in
+    let L = length h in
     let p = e .args .at in
-    let first = marked-part 4 8 (length h) h p 8 (p + 4) 0 (omega arith) (omega arith) (omega arith) (omega arith) (one .bits-set .result) (one .bits-set .ensures) in
-    let second = more h p 8 (p + 12) _ _ (e .pre .0) (omega arith) (omega arith) first (two .bits-set2 .ensures) in
-    let third = more h p 16 (p + 20) _ _ (e .pre .0) (omega arith) (omega arith) second (three .bits-set3 .ensures) in
-    sym (more h p 24 (p + 28) _ _ (e .pre .0) (omega arith) (omega arith) third (c .bits-set4 .ensures))
+    let first = marked-part 4 8 L h p 8 (p + 4) 0 (omega arith) (omega arith) (omega arith) (omega arith) (one .bits-set .result) (one .bits-set .ensures) in
+    let second = marked-after 4 8 L h (p + 8) 8 (p + 12) 0 (omega arith) (omega arith) (omega arith) (omega arith) p 8 _ _ (omega arith) first (two .bits-set2 .ensures) in
+    let third = marked-after 4 8 L h (p + 16) 8 (p + 20) 0 (omega arith) (omega arith) (omega arith) (omega arith) p 16 _ _ (omega arith) second (three .bits-set3 .ensures) in
+    sym (marked-after 4 8 L h (p + 24) 8 (p + 28) 0 (omega arith) (omega arith) (omega arith) (omega arith) p 24 _ _ (omega arith) third (c .bits-set4 .ensures))
 
 pub four-marked-spec : {M : Type 1} → statement M
 four-marked-spec =

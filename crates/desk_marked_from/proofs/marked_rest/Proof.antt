@@ -1,4 +1,4 @@
--- `desk_marked::marked_from` meets its contract: the whole range is marked exactly if what is left of it is. Assumes nothing.
+-- `desk_marked_from::marked_rest` meets its contract: the whole range is marked exactly if what is left of it is. Assumes nothing.
 use mathlib.Core.Path.{_≡_, refl, sym, ap, _∙_}
 use mathlib.Core.Logic.{inl, inr, ⊎-elim}
 use mathlib.Core.Bool.{Bool, _&&_, and-assoc}
@@ -15,8 +15,8 @@ use Rattle.heap_layout.specs.Reading.{bitsPlace}
 use Rattle.heap_layout.specs.Ops.{heapOps}
 use Rattle.heap_laws.proofs.MarkLaws.{marked-part, marked-first}
 use Rattle.heap_laws.proofs.HalfLaws.{Ahead, half-ahead, ahead-on, byte-in}
-use Rattle.desk_marked.proofs.marked_from.Statement.{statement}
-use Rattle.desk_marked.proofs.marked_from.Tie as tie
+use Rattle.desk_marked_from.proofs.marked_rest.Statement.{statement}
+use Rattle.desk_marked_from.proofs.marked_rest.Tie as tie
 
 abbrev Inv-loop : tie.InvT-loop
 Inv-loop heap e at₀ own next at =
@@ -180,8 +180,8 @@ returns-4 c =
     let a = l .before .before .before .before .args in
     sym (l .loop .inv .3 ∙ marked-none (heapOps 8 16 (length (now (a .heap)))) (now (a .heap)) (l .loop .at) (a .end .0 - l .loop .at) (omega arith))
 
-pub marked-from-spec : {M : Type 1} → statement M
-marked-from-spec =
+pub marked-rest-spec : {M : Type 1} → statement M
+marked-rest-spec =
     tie.close
     (tie.spec
     Inv-loop
