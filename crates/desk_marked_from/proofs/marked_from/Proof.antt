@@ -2,7 +2,7 @@
 use mathlib.Core.Path.{_≡_, refl, sym, ap, _∙_}
 use mathlib.Core.Logic.{inl, inr, ⊎-elim}
 use mathlib.Core.Bool.{_&&_}
-use Prim.Native.Nat.{_≤_, _-_, _+_, _%_}
+use Prim.Native.Nat.{ℕ, _≤_, _-_, _+_, _%_}
 use native.Mathlib.Omega.{arith}
 use denote.Ref.{now}
 use lib.ListN.{length}
@@ -34,11 +34,14 @@ loop-holds c =
 add-loop : tie.Need-add-loop Inv-loop μ-loop
 add-loop c = search needs
 
+ends-in : (p e size : ℕ) → p + 32 ≤ e → e ≤ size → p + 32 ≤ size
+ends-in p e size h k = omega arith
+
 four-marked-requires : tie.Need-four-marked-requires Inv-loop μ-loop
 four-marked-requires c κs =
     let l = c .before in
     let p = l .before .before .before .before .pre in
-    ((omega arith, omega arith, p .1 .0, p .1 .1), l .loop .inv .2)
+    ((l .loop .inv .0, ends-in _ _ _ (c .loop-test .taken) (p .0 .2), p .1 .0, p .1 .1), l .loop .inv .2)
 
 -- four whole halves, and the rest
 step : (c : tie.After-four-marked Inv-loop μ-loop)
