@@ -3,6 +3,7 @@ mod walk;
 
 use heap_audit_laws::Moved;
 use heap_audit_laws::Walk;
+use heap_audit_runs::ahead;
 use plain::Audit;
 ghost use mathlib.Core.Path.{_≡_};
 ghost use Prim.Native.Nat.{_%_, _≤_};
@@ -26,7 +27,9 @@ pub fn audit(heap: &[u8]) -> Audit
     };
     let mut s: usize = 0;
     while s < segments {
-        match walk::turn(heap, s, w) {
+        let r = ahead(heap, s, w);
+        let at = r.s;
+        match walk::turn(heap, at, r.w) {
             Moved::On(v) => {
                 w = v;
             }
@@ -34,7 +37,7 @@ pub fn audit(heap: &[u8]) -> Audit
                 return Audit::NoImage;
             }
         }
-        s += 1;
+        s = at + 1;
     }
     Audit::Totals(w.blocks, w.live, w.written)
 }

@@ -7,13 +7,16 @@ use native.Mathlib.Numerals.{add-one}
 use lib.Dec.{eqb}
 use lib.Arith.{digits-div, digits-mod}
 use lib.Pow.{pow-pos, pow-mono, pow-add, shr-shr, split, field, mod-mod-pow}
+use lib.Bits.{bitOr, or-mod, or-shr}
 use lib.Count as count
+use borrow.Author.Tests.{eq-eqb, eqb-true}
 use Rattle.number.specs.Little.{byteOf, word}
 use Rattle.number.specs.Bits.{bitOf, ofBits, ones, onesOf}
 use Rattle.number.specs.Parts.{tab}
 use Rattle.number.proofs.LittleLaws.{byteOf-shift, word-of}
 use Rattle.number.proofs.WordLaws.{byteOf-word}
-use Rattle.number.proofs.BitLaws.{bit-test, ofBits-lt, ones-all, onesOf-list}
+use Rattle.number.proofs.BitLaws.{bit-test, ofBits-lt, ones-all, onesOf-list, or-none}
+use Rattle.number.proofs.TestLaws.{and-true}
 use Rattle.number.proofs.PartLaws.{tab-ext}
 use Rattle.heap_layout.specs.Reading.{writtenBit}
 use Rattle.heap_layout.specs.Walk.{marksAt}
@@ -53,15 +56,25 @@ bit-byte x r =
     let e : 8 * (r / 8) + r % 8 ≡ r = omega arith in
     rw (← byteOf-shift x (r / 8), low-bit (x / 2 ^ (8 * (r / 8))) (r % 8) (omega arith), bit-shifted x (8 * (r / 8)) (r % 8), e)
 
+or-zero : (a b : ℕ) → bitOr a b ≡ 0 → (a ≡ 0) × (b ≡ 0)
+or-zero a b e = let c = and-true (eqb a 0) (eqb b 0) (sym (or-none a b) ∙ eq-eqb (bitOr a b) 0 e) in (eqb-true a 0 (c .0), eqb-true b 0 (c .1))
+
 -- a power of 256 is one of 2
-pow-bytes : (n : ℕ) → 2 ^ (8 * n) ≡ 256 ^ n
+pub pow-bytes : (n : ℕ) → 2 ^ (8 * n) ≡ 256 ^ n
 pow-bytes zero = refl
 pow-bytes (suc n) = let e : 8 * suc n ≡ 8 * n + 8 = omega arith in rw (e, pow-add 2 (8 * n) 8, pow-bytes n, pow-suc 256 n)
+
+-- numbers that are zero at their low bits, or above them, where their union is
+pub or-low : (k a b : ℕ) → bitOr a b % 2 ^ k ≡ 0 → (a % 2 ^ k ≡ 0) × (b % 2 ^ k ≡ 0)
+or-low k a b e = or-zero (a % 2 ^ k) (b % 2 ^ k) (sym (or-mod a b k) ∙ e)
+
+pub or-high : (k a b : ℕ) → bitOr a b / 2 ^ k ≡ 0 → (a / 2 ^ k ≡ 0) × (b / 2 ^ k ≡ 0)
+or-high k a b e = or-zero (a / 2 ^ k) (b / 2 ^ k) (sym (or-shr a b k) ∙ e)
 
 -- ---- the ones of bytes
 
 -- the ones of a number are those of its bytes
-ones-word : (f : ℕ → ℕ) → ((q : ℕ) → f q < 256) → (n p : ℕ) → count.ones (word f p n) ≡ onesAt f p n
+pub ones-word : (f : ℕ → ℕ) → ((q : ℕ) → f q < 256) → (n p : ℕ) → count.ones (word f p n) ≡ onesAt f p n
 unfolding word onesAt count.ones
 ones-word f b zero p = refl
 ones-word f b (suc n) p =

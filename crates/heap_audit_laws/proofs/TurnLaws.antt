@@ -6,10 +6,11 @@ use mathlib.Core.List.{List, [], _∷_, _++_}
 use mathlib.Core.Option.{some}
 use Prim.Native.Nat.{ℕ, zero, suc, _+_, _*_, _-_, _/_, _^_, _≤_, _<_, min}
 use native.Mathlib.Omega.{arith}
-use native.Mathlib.Nat.{add-zero, zero-add, pow-le-pow-right, le-div-iff-mul-le, div-le-of-le-mul}
+use native.Mathlib.Nat.{add-zero, zero-add, pow-le-pow-right, le-div-iff-mul-le, div-le-of-le-mul, div-eq-of-lt}
 use native.Mathlib.Numerals.{add-one}
 use lib.ListN.{length, length-append}
 use lib.Dec.{leb}
+use lib.Count as count
 use borrow.Author.Tests.{le-leb, lt-leb, eq-eqb}
 use Rattle.number.specs.Little.{word}
 use Rattle.number.specs.Bits.{ones}
@@ -27,7 +28,7 @@ use Rattle.heap_audit_laws.specs.declared.Walk.{Walk}
 use Rattle.heap_audit_laws.specs.declared.Moved.{Moved}
 use Rattle.heap_audit_laws.specs.declared.Moved.the-variants.{On, NoImage}
 use Rattle.heap_audit_laws.specs.Turn.{beside, rest, onesAt, Kept, Stands, Turned}
-use Rattle.heap_audit_laws.proofs.BitsLaws.{marks-ones}
+use Rattle.heap_audit_laws.proofs.BitsLaws.{ones-word, marks-ones}
 use Rattle.heap_audit_laws.proofs.WalkLaws.{walk-free, walk-low, walk-past, walk-opens, walk-number, walk-bits, walk-goes, walk-idle}
 
 -- ---- totals
@@ -143,6 +144,14 @@ module _ (W G : ℕ) (wide : 4 ≤ W) (two : G ≡ W + W) {h : List ℕ} {s : �
           goes ∙ rw (lt-leb (w .len) (w .d + G) c, add-one s),
           omega arith,
         )
+
+    -- a whole segment that is the block's own, where the block goes on after it
+    pub turn-whole : low ≡ w .d + 1 → high < 2 ^ G → w .d + G < w .len
+        → Turned W G h s w
+        (On (record { len = w .len; d = w .d + G; blocks = w .blocks; live = w .live + G; written = w .written + count.ones high }))
+    turn-whole a b c =
+        turn-more {k = G} (omega arith) a (div-eq-of-lt b) W (omega arith) (omega arith) {m = count.ones high}
+        (rw (t .highs) (ones-word (at h) (t .bytes) W (s * G + W))) (count.ones-le G high b) c
 
 -- ---- the start and the end of the walk
 

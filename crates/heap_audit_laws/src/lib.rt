@@ -14,3 +14,9 @@ pub enum Moved {
     On(Walk),
     NoImage,
 }
+
+// The walk as it stands at segment s, some turns ahead.
+pub struct Ahead {
+    pub s: usize,
+    pub w: Walk,
+}
