@@ -1,6 +1,7 @@
 // The audit of a desk heap shadow, segment by segment: segments of 16 bytes and numbers of 8.
 mod walk;
 
+use desk_audit_runs::ahead;
 use heap_audit_laws::Moved;
 use heap_audit_laws::Walk;
 use plain::Audit;
@@ -26,7 +27,9 @@ pub fn audit(heap: &[u8]) -> Audit
     };
     let mut s: usize = 0;
     while s < segments {
-        match walk::turn(heap, s, w) {
+        let r = ahead(heap, s, w);
+        let at = r.s;
+        match walk::turn(heap, at, r.w) {
             Moved::On(v) => {
                 w = v;
             }
@@ -34,7 +37,7 @@ pub fn audit(heap: &[u8]) -> Audit
                 return Audit::NoImage;
             }
         }
-        s += 1;
+        s = at + 1;
     }
     Audit::Totals(w.blocks, w.live, w.written)
 }

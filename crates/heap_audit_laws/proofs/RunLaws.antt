@@ -42,14 +42,19 @@ ones-shifted W y e =
     let d : y / 256 ^ W * 2 ^ (8 * W) + 0 ≡ y = rw (pow-bytes W) (omega (arith, div-add-mod' y (256 ^ W), e)) in
     omega (arith, rw d at c)
 
--- one segment more, whose number has bits above it that are written ones
+-- one segment more, by its two numbers
+pub owned-pair : (W G : ℕ) (f : ℕ → ℕ) (t d n m low high : ℕ) → Owned W G f t d n m → low ≡ word f ((t + n) * G) W
+    → high ≡ word f ((t + n) * G + W) W → low ≡ d + n * G + 1 → high < 2 ^ G → Owned W G f t d (suc n) (m + count.ones high)
+owned-pair W G f t d n m low high o x y u v = (m, o, sym x ∙ u, rw (← y) v, rw y)
+
+-- one segment more, as one number: bits above its number are written ones
 pub owned-more : (W G : ℕ) → G ≡ W + W → (f : ℕ → ℕ) → ((q : ℕ) → f q < 256) → (t d n m number bits : ℕ) → Owned W G f t d n m
     → number ≡ d + n * G + 1 → number < 256 ^ W → word f ((t + n) * G) G ≡ number + bits → bits % 256 ^ W ≡ 0 → bits / 256 ^ W < 2 ^ G
     → Owned W G f t d (suc n) (m + count.ones bits)
 owned-more W G two f b t d n m number bits o e l x u v =
     let y : number + bits ≡ number + 256 ^ W * (bits / 256 ^ W) = omega (arith, div-add-mod' bits (256 ^ W), u) in
     let k = halves W f b ((t + n) * G) number (bits / 256 ^ W) l (ap (word f ((t + n) * G)) (sym two) ∙ x ∙ y) in
-    (m, o, k .0 ∙ e, rw (k .1) v, rw (k .1, ones-shifted W bits u))
+    rw (ones-shifted W bits u) at (owned-pair W G f t d n m number (bits / 256 ^ W) o (sym (k .0)) (sym (k .1)) e v)
 
 -- ---- segments that are passed
 
@@ -94,7 +99,7 @@ module _ (W G : ℕ) (wide : 4 ≤ W) (two : G ≡ W + W) {h : List ℕ} (small 
         → Passed W G h s w (s + n) (record { len = w .len; d = w .d + n * G; blocks = w .blocks; live = w .live + n * G; written = w .written + m })
     passed-owned zero m o l =
         rw (o, zero-mul G, add-zero s, add-zero (w .d), add-zero (w .live), add-zero (w .written)) (passed-none W G i k)
-    passed-owned (suc n) m (a , o , x , y , e) l =
+    passed-owned (suc n) m (a, o, x, y, e) l =
         let p = passed-owned n a o (omega arith) in
         let t = turn-whole W G wide two (standing p) z x y (omega arith) in
         let q = passed-turn W G p t (omega (arith, in-area G (length h) s (w .d) (w .len) (suc n) even (k .ends) l)) in

@@ -22,8 +22,11 @@ abbrev μ-loop : tie.MeasureT-loop
 loop-holds : tie.Need-loop-holds Inv-loop μ-loop
 loop-holds c = (search needs, omega arith, rest-start 8 16 (now (c .before .args .heap)))
 
+ahead-requires : tie.Need-ahead-requires Inv-loop μ-loop
+ahead-requires c κs = search needs
+
 turn-requires : tie.Need-turn-requires Inv-loop μ-loop
-turn-requires c κs = search needs
+turn-requires c κs = let p = c .ahead .ensures in (p .inside, c .before .before .before .before .pre .1, p .kept)
 
 enum-known-v : tie.Need-enum-known-v Inv-loop μ-loop
 enum-known-v c = search needs
@@ -33,21 +36,24 @@ enum-told c = search needs
 
 returns : tie.Need-returns Inv-loop μ-loop
 returns c =
-    let l = c .before .before .before .before .loop in
-    sym (l .inv .2 ∙ turned 8 16 (now (c .before .before .before .before .before .before .args .heap)) (l .s) (l .w) _ NoImage (c .before .before .turn .ensures) (c .enum-told .given .1))
+    let r = c .before .before .before .ahead in
+    let l = c .before .before .before .before .before .loop in
+    sym (l .inv .2 ∙ r .ensures .same
+    ∙ turned 8 16 (now (c .before .before .before .before .before .before .before .args .heap)) (r .result .s) (r .result .w) _ NoImage (c .before .before .turn .ensures) (c .enum-told .given .1))
 
 add-s : tie.Need-add-s Inv-loop μ-loop
 add-s c = search needs
 
 loop-less : tie.Need-loop-less Inv-loop μ-loop
-loop-less c = search needs
+loop-less c = omega (arith, c .before .before .before .before .ahead .ensures)
 
 loop-again : tie.Need-loop-again Inv-loop μ-loop
 loop-again c =
-    let l = c .before .before .before .before .before .loop in
-    let t = turned 8 16 (now (c .before .before .before .before .before .before .before .args .heap)) (l .s) (l .w) _ (On (c .before .v .given .0 .0))
+    let r = c .before .before .before .before .ahead in
+    let l = c .before .before .before .before .before .before .loop in
+    let t = turned 8 16 (now (c .before .before .before .before .before .before .before .before .args .heap)) (r .result .s) (r .result .w) _ (On (c .before .v .given .0 .0))
     (c .before .before .before .turn .ensures) (c .before .v .given .1) in
-    (search needs, t .1, l .inv .2 ∙ t .0)
+    (omega (arith, r .ensures .inside), t .1, l .inv .2 ∙ r .ensures .same ∙ t .0)
 
 returns-2 : tie.Need-returns-2 Inv-loop μ-loop
 returns-2 c =
@@ -61,6 +67,7 @@ audit-spec =
     Inv-loop
     μ-loop
     loop-holds
+    ahead-requires
     turn-requires
     enum-known-v
     enum-told

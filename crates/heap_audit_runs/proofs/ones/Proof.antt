@@ -66,13 +66,13 @@ loop-again c =
     let a = f .before .args in
     let i = l .loop .inv in
     let own : bitOr (l .loop .over) (c .above .result) % 2 ^ 32 ≡ 0 → bitOr (l .loop .over) (c .above .result) / 2 ^ 40 ≡ 0
-        → Owned 4 8 (at (now (a .heap))) (a .t) (a .d) (l .loop .j + 1) (l .loop .written + ones (c .above .result)) =
+    → Owned 4 8 (at (now (a .heap))) (a .t) (a .d) (l .loop .j + 1) (l .loop .written + ones (c .above .result)) =
     λ x y.
-      let u = or-low 32 (l .loop .over) (c .above .result) x in
-      let v = or-high 40 (l .loop .over) (c .above .result) y in
-      rw (add-one (l .loop .j))
-      (owned-more 4 8 refl (at (now (a .heap))) (λ q. f .shared-slice-known .given q .fits) (a .t) (a .d) (l .loop .j) (l .loop .written) (l .loop .number)
-      (c .above .result) (i .3 (u .0) (v .0)) (i .1) (omega arith) (sym (c .above .ensures) ∙ omega arith) (u .1) (omega arith)) in
+    let u = or-low 32 (l .loop .over) (c .above .result) x in
+    let v = or-high 40 (l .loop .over) (c .above .result) y in
+    rw (add-one (l .loop .j))
+    (owned-more 4 8 refl (at (now (a .heap))) (λ q. f .shared-slice-known .given q .fits) (a .t) (a .d) (l .loop .j) (l .loop .written) (l .loop .number)
+    (c .above .result) (i .3 (u .0) (v .0)) (i .1) (omega arith) (sym (c .above .ensures) ∙ omega arith) (u .1) (omega arith)) in
     (omega arith, omega arith, omega (arith, few c), own)
 
 returns : tie.Need-returns Inv-loop μ-loop
