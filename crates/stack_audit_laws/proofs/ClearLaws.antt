@@ -8,14 +8,14 @@ use native.Mathlib.Nat.{zero-add}
 use lib.ListN.{length}
 use lib.Dec.{ltb, eqb}
 use lib.Bits.{bitOr}
-use borrow.Author.Tests.{eqb-true, ltb-true, ltb-false}
+use borrow.Author.Tests.{eq-eqb, eqb-true, ltb-true, ltb-false}
 use Rattle.number.specs.Little.{byteOf, word}
-use Rattle.number.specs.Parts.{at, runOf}
+use Rattle.number.specs.Parts.{at, zeros, runOf}
 use Rattle.number.proofs.TestLaws.{Test, is-true, is-false, test, and-true}
 use Rattle.number.proofs.BitLaws.{or-none}
-use Rattle.number.proofs.PartLaws.{zeros-all}
+use Rattle.number.proofs.PartLaws.{zeros-at, zeros-all}
 use Rattle.number.proofs.ZeroLaws.{zero-word}
-use Rattle.number.proofs.RunLaws.{run-le, run-at, run-same, run-on, run-stops}
+use Rattle.number.proofs.RunLaws.{run-le, run-at, run-same, run-all, run-on, run-stops}
 use Rattle.number.proofs.WordLaws.{AllBytes, byteOf-word, byteOf-or}
 use Rattle.stack_layout.specs.Walk.{isClear}
 use Rattle.stack_audit_laws.specs.Runs.{clearTo}
@@ -46,6 +46,15 @@ module _ (P S : List ℕ) where
       }
 
   module _ (p : ℕ) where
+    -- 32 zeros in both
+    pub clear-far : p + 32 ≤ length P → zeros (at P) p 32 ≡ true → zeros (at S) p 32 ≡ true → clearTo P S p ≡ clearTo P S (p + 32)
+    unfolding clearTo isClear
+    clear-far h u v =
+        let n : (length P - p) / 8 * 8 ≡ 32 + (length P - (p + 32)) / 8 * 8 = omega arith in
+        let e : runOf clear p 32 ≡ 32 =
+        run-all clear p 32 (λ i k. rw (eq-eqb _ 0 (zeros-at (at P) p 32 i u k), eq-eqb _ 0 (zeros-at (at S) p 32 i v k))) in
+        rw (n, run-on clear p 32 ((length P - (p + 32)) / 8 * 8) e) (omega arith)
+
     clear-eight : p + 8 ≤ length P → runOf clear p 8 ≡ 8 → clearTo P S p ≡ clearTo P S (p + 8)
     unfolding clearTo
     clear-eight h e =
