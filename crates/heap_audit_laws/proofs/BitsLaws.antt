@@ -7,16 +7,14 @@ use native.Mathlib.Numerals.{add-one}
 use lib.Dec.{eqb}
 use lib.Arith.{digits-div, digits-mod}
 use lib.Pow.{pow-pos, pow-mono, pow-add, shr-shr, split, field, mod-mod-pow}
-use lib.Bits.{bitOr, bitXor, and-le-l, and-le-r, or-mod, or-shr, xor-add-and}
+use lib.Bits.{bitOr, or-mod, or-shr}
 use lib.Count as count
-use borrow.Author.Tests.{eq-eqb, eqb-true}
 use Rattle.number.specs.Little.{byteOf, word}
 use Rattle.number.specs.Bits.{bitOf, ofBits, ones, onesOf}
 use Rattle.number.specs.Parts.{tab}
 use Rattle.number.proofs.LittleLaws.{byteOf-shift, word-of}
 use Rattle.number.proofs.WordLaws.{byteOf-word}
-use Rattle.number.proofs.BitLaws.{bit-test, ofBits-lt, ones-all, onesOf-list, or-none}
-use Rattle.number.proofs.TestLaws.{and-true}
+use Rattle.number.proofs.BitLaws.{bit-test, ofBits-lt, ones-all, onesOf-list, or-zero}
 use Rattle.number.proofs.PartLaws.{tab-ext}
 use Rattle.heap_layout.specs.Reading.{writtenBit}
 use Rattle.heap_layout.specs.Walk.{marksAt}
@@ -55,12 +53,6 @@ bit-byte : (x r : ℕ) → bitOf (byteOf x (r / 8)) (r % 8) ≡ bitOf x r
 bit-byte x r =
     let e : 8 * (r / 8) + r % 8 ≡ r = omega arith in
     rw (← byteOf-shift x (r / 8), low-bit (x / 2 ^ (8 * (r / 8))) (r % 8) (omega arith), bit-shifted x (8 * (r / 8)) (r % 8), e)
-
-pub or-zero : (a b : ℕ) → bitOr a b ≡ 0 → (a ≡ 0) × (b ≡ 0)
-or-zero a b e = let c = and-true (eqb a 0) (eqb b 0) (sym (or-none a b) ∙ eq-eqb (bitOr a b) 0 e) in (eqb-true a 0 (c .0), eqb-true b 0 (c .1))
-
-pub xor-zero : (a b : ℕ) → bitXor a b ≡ 0 → a ≡ b
-xor-zero a b e = omega (arith, xor-add-and a b, and-le-l a b, and-le-r a b)
 
 -- a power of 256 is one of 2
 pub pow-bytes : (n : ℕ) → 2 ^ (8 * n) ≡ 256 ^ n

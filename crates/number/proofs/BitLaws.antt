@@ -10,7 +10,7 @@ use lib.ListN.{length, getD, set}
 use lib.Dec.{eqb, lit<, lit≤}
 use lib.Pow.{pow-pos, pow-lt, pow-mono, shr-shr, mod-pow-add, high-ones, shl-exact, shl-lt}
 use lib.Arith.{bin-ind}
-use lib.Bits.{bitAnd, bitOr, or-add-and, and-le-l, and-le-r, and-mask, and-high, or-shr, or-zero-r, or-step, or-shifted, or-shifted-r}
+use lib.Bits.{bitAnd, bitOr, bitXor, or-add-and, xor-add-and, and-le-l, and-le-r, and-mask, and-high, or-shr, or-zero-r, or-step, or-shifted, or-shifted-r}
 use lib.Count as count
 use borrow.Author.Tests.{eq-eqb, eqb-true}
 use Rattle.number.proofs.TestLaws.{and-true, same-test, same-digits}
@@ -168,3 +168,10 @@ or-none a b =
     rw (eq-eqb a 0 (omega (arith, or-add-and a b, and-le-r a b)), eq-eqb b 0 (omega (arith, or-add-and a b, and-le-l a b))))
     (λ e. let t = and-true (eqb a 0) (eqb b 0) e in
     eq-eqb (bitOr a b) 0 (omega (arith, or-add-and a b, eqb-true a 0 (t .0), eqb-true b 0 (t .1))))
+
+pub or-zero : (a b : ℕ) → bitOr a b ≡ 0 → (a ≡ 0) × (b ≡ 0)
+or-zero a b e = (omega (arith, or-add-and a b, and-le-r a b), omega (arith, or-add-and a b, and-le-l a b))
+
+-- an exclusive or is zero where both are equal
+pub xor-zero : (a b : ℕ) → bitXor a b ≡ 0 → a ≡ b
+xor-zero a b e = omega (arith, xor-add-and a b, and-le-l a b, and-le-r a b)

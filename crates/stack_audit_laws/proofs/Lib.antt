@@ -6,3 +6,4 @@ pub mod RunLaws
 pub mod KnownLaws
 pub mod PassedLaws
 pub mod TurnLaws
+pub mod FarLaws

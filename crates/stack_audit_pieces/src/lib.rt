@@ -1,4 +1,4 @@
-// The whole pieces of a long block, eight bytes at a time.
+// The whole pieces of a long block, in stretches, and eight bytes at a time where a stretch is not all its own.
 ghost use mathlib.Core.Path.{_≡_};
 ghost use Prim.Native.Nat.{_*_, _/_, _%_, _<_, _≤_, min};
 ghost use lib.Dec.{eqb};
@@ -8,6 +8,7 @@ use map::Position;
 use number_bits::low;
 use number_bits::odds;
 use number_words::eight_at;
+use stack_audit_far::far;
 use stack_audit_laws::Run;
 
 fn least(a: usize, b: usize) -> usize
@@ -43,8 +44,9 @@ pub fn pieces(primary: &[u8], secondary: &[u8], q: Position, len: u32, i: u32, l
     let Position(at) = q;
     let end = least(primary.len() - at, (len - i) as usize);
     let first = first_byte(48, literal);
-    let mut n: usize = 0;
-    let mut written: u32 = 0;
+    let r = far(primary, secondary, q, end, len, i, literal);
+    let mut n = r.n;
+    let mut written = r.written;
     while n + 8 <= end {
         let x = eight_at(primary, at + n);
         let o = (i as u64) + (n as u64);

@@ -14,7 +14,8 @@ use borrow.Author.Tests.{not-false, eqb-true}
 use Rattle.number.proofs.TestLaws.{or-false}
 use Rattle.number.specs.Parts.{at}
 use Rattle.heap_audit_laws.specs.Runs.{Owned}
-use Rattle.heap_audit_laws.proofs.BitsLaws.{or-zero, xor-zero, or-high}
+use Rattle.number.proofs.BitLaws.{or-zero, xor-zero}
+use Rattle.heap_audit_laws.proofs.BitsLaws.{or-high}
 use Rattle.heap_audit_laws.proofs.RunLaws.{owned-pair}
 use Rattle.desk_audit_runs.proofs.ones.Statement.{statement}
 use Rattle.desk_audit_runs.proofs.ones.Tie as tie
