@@ -27,16 +27,16 @@ fn stretch(primary: &[u8], secondary: &[u8], q: Position, n: usize, len: u32, i:
     ensures { λ r. ⌜ (r ≤ 248 → (runOf (standsAt (now (primary .entry)) (now (secondary .entry)) (q .0) len i literal) 0 n ≡ n)
         × (r ≡ oddBytes (at (now (primary .entry))) (q .0) n)) ⌝ }
 {
-    let Position(at) = q;
+    let Position(p) = q;
     let bytes = piece_bytes(literal);
     let mut pair = (len as u64) + 4294967296 * (i as u64);
     let mut wrong: u64 = 0;
     let mut sum: u64 = 0;
     let mut m: usize = 0;
     while m < n {
-        let x = eight_at(primary, at + m);
+        let x = eight_at(primary, p + m);
         let ones = x & 0x0101010101010101;
-        wrong = wrong | (x ^ (bytes | ones)) | (eight_at(secondary, at + m) ^ pair);
+        wrong = wrong | (x ^ (bytes | ones)) | (eight_at(secondary, p + m) ^ pair);
         sum += ones;
         pair += 0x800000000;
         m += 8;
@@ -47,6 +47,14 @@ fn stretch(primary: &[u8], secondary: &[u8], q: Position, n: usize, len: u32, i:
     (sum % 255) as u32
 }
 
+// How many of the bytes that are left one stretch takes.
+fn taken(left: usize) -> usize
+    requires { ⌜ 8 ≤ left ⌝ }
+    ensures { λ r. ⌜ (8 ≤ r) × (r ≤ left) × (r ≤ 248) × (r % 8 ≡ 0) ⌝ }
+{
+    if left < 248 { left / 8 * 8 } else { 248 }
+}
+
 // The pieces of a long block from its byte i on, among the end bytes at q, as far as stretches of them are the block's own.
 pub fn far(primary: &[u8], secondary: &[u8], q: Position, end: usize, len: u32, i: u32, literal: bool) -> Run
     requires { ⌜ Inside (now primary) (now secondary) (q .0) × (q .0 + end ≤ length (now primary)) × (8 < len) × (i + end ≤ len) × (i % 8 ≡ 0) ⌝ }
@@ -54,13 +62,12 @@ pub fn far(primary: &[u8], secondary: &[u8], q: Position, end: usize, len: u32, 
         × (runOf (standsAt (now (primary .entry)) (now (secondary .entry)) (q .0) len i literal) 0 (r .n) ≡ r .n)
         × (r .written ≡ oddBytes (at (now (primary .entry))) (q .0) (r .n)) ⌝ }
 {
-    let Position(at) = q;
+    let Position(p) = q;
     let mut n: usize = 0;
     let mut written: u32 = 0;
     while n + 8 <= end {
-        let left = end - n;
-        let m = if left < 248 { left / 8 * 8 } else { 248 };
-        let ones = stretch(primary, secondary, Position(at + n), m, len, i + (n as u32), literal);
+        let m = taken(end - n);
+        let ones = stretch(primary, secondary, Position(p + n), m, len, i + (n as u32), literal);
         if 248 < ones {
             break;
         }

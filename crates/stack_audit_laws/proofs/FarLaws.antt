@@ -1,6 +1,6 @@
 -- Whole pieces of a long block, many looked at together. Assumes nothing.
 use mathlib.Core.Path.{_≡_, sym, ap, _∙_}
-use mathlib.Core.Bool.{Bool, true}
+use mathlib.Core.Bool.{Bool, true, false}
 use mathlib.Core.List.{List}
 use Prim.Native.Nat.{ℕ, _+_, _-_, _*_, _%_, _^_, _≤_, _<_}
 use native.Mathlib.Omega.{arith}
@@ -48,3 +48,8 @@ module _ (P S : List ℕ) (q L i : ℕ) (t : Bool) where
       run-same (standsAt P S (q + n) L (i + n) t) (standsAt P S q L i t) 0 n m
       (λ j k. let u : q + n + (0 + j) ≡ q + (n + j) = omega arith in let v : i + n + (0 + j) ≡ i + (n + j) = omega arith in rw (u, v)) in
       run-on (standsAt P S q L i t) 0 n m a ∙ rw (zero-add n, ← s, b)
+
+-- the first byte of a piece leaves room for the others
+pub first-small : (t : Bool) → firstByte 48 t ≤ 227
+first-small true = omega arith
+first-small false = omega arith
