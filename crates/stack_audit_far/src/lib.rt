@@ -21,7 +21,15 @@ fn piece_bytes(literal: bool) -> u64
 
 // How many of the n bytes at q are written, if they are whole pieces of a long block from its byte i on, and 249 if not. One pass with no early
 // way out, which runs at memory speed; modulo 255 the sum of the written bits is their number.
-fn stretch(primary: &[u8], secondary: &[u8], q: Position, n: usize, len: u32, i: u32, literal: bool) -> u32
+fn stretch(
+    primary: &[u8],
+    secondary: &[u8],
+    q: Position,
+    n: usize,
+    len: u32,
+    i: u32,
+    literal: bool,
+) -> u32
     requires { ⌜ Inside (now primary) (now secondary) (q .0) × (q .0 + n ≤ length (now primary)) × (n ≤ 248) × (n % 8 ≡ 0)
         × (8 < len) × (i + n ≤ len) × (i % 8 ≡ 0) ⌝ }
     ensures { λ r. ⌜ (r ≤ 248 → (runOf (standsAt (now (primary .entry)) (now (secondary .entry)) (q .0) len i literal) 0 n ≡ n)
@@ -56,7 +64,15 @@ fn taken(left: usize) -> usize
 }
 
 // The pieces of a long block from its byte i on, among the end bytes at q, as far as stretches of them are the block's own.
-pub fn far(primary: &[u8], secondary: &[u8], q: Position, end: usize, len: u32, i: u32, literal: bool) -> Run
+pub fn far(
+    primary: &[u8],
+    secondary: &[u8],
+    q: Position,
+    end: usize,
+    len: u32,
+    i: u32,
+    literal: bool,
+) -> Run
     requires { ⌜ Inside (now primary) (now secondary) (q .0) × (q .0 + end ≤ length (now primary)) × (8 < len) × (i + end ≤ len) × (i % 8 ≡ 0) ⌝ }
     ensures { λ r. ⌜ (r .n % 8 ≡ 0) × (r .n ≤ end)
         × (runOf (standsAt (now (primary .entry)) (now (secondary .entry)) (q .0) len i literal) 0 (r .n) ≡ r .n)
@@ -67,7 +83,15 @@ pub fn far(primary: &[u8], secondary: &[u8], q: Position, end: usize, len: u32, 
     let mut written: u32 = 0;
     while n + 8 <= end {
         let m = taken(end - n);
-        let ones = stretch(primary, secondary, Position(p + n), m, len, i + (n as u32), literal);
+        let ones = stretch(
+            primary,
+            secondary,
+            Position(p + n),
+            m,
+            len,
+            i + (n as u32),
+            literal,
+        );
         if 248 < ones {
             break;
         }

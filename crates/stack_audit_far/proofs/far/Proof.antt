@@ -12,7 +12,7 @@ use Rattle.stack_audit_far.proofs.far.Statement.{statement}
 use Rattle.stack_audit_far.proofs.far.Tie as tie
 
 abbrev Inv-loop : tie.InvT-loop
-Inv-loop primary secondary end len i literal p n₀ written₀ n written = 
+Inv-loop primary secondary end len i literal p n₀ written₀ n written =
     (n % 8 ≡ 0) × (n ≤ end) × (runOf (standsAt primary secondary p len i literal) 0 n ≡ n) × (written ≡ oddBytes (at primary) p n)
 
 abbrev μ-loop : tie.MeasureT-loop

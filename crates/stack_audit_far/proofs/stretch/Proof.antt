@@ -84,20 +84,20 @@ loop-again c =
     let t = standsAt (now (a .primary)) (now (a .secondary)) (a .q .0) (a .len) (a .i) (a .literal) in
     let o = odd-bits f (λ q. g .before .shared-slice-known .given q .fits) (a .q .0 + l .loop .m) x (c .before .eight-at .ensures) in
     let own : bitOr (bitOr (l .loop .wrong) (bitXor x (bitOr (b .piece-bytes .result) (bitAnd x 72340172838076673)))) (bitXor y (l .loop .pair)) ≡ 0
-        → runOf t 0 (l .loop .m + 8) ≡ l .loop .m + 8 =
+    → runOf t 0 (l .loop .m + 8) ≡ l .loop .m + 8 =
     λ e.
-      let u = or-zero (bitOr (l .loop .wrong) (bitXor x (bitOr (b .piece-bytes .result) (bitAnd x 72340172838076673)))) (bitXor y (l .loop .pair)) e in
-      let v = or-zero (l .loop .wrong) (bitXor x (bitOr (b .piece-bytes .result) (bitAnd x 72340172838076673))) (u .0) in
-      let w = piece-own (now (a .primary)) (now (a .secondary)) (a .q .0) (a .len) (a .i) (a .literal) (l .loop .m) x y (firstByte 48 (a .literal)) (l .loop .pair)
-      (b .piece-bytes .result) (λ q. g .before .shared-slice-known .given q .fits) (λ q. g .shared-slice-known2 .given q .fits) (c .before .eight-at .ensures) (c .eight-at2 .ensures)
-      refl (b .piece-bytes .ensures) (i .2) (xor-zero _ _ (v .1)) (xor-zero _ _ (u .1)) (k .0) (k .1) (s .pre .4) (s .fits .len .fits) (k .2)
-      (first-small (a .literal)) in
-      run-on t 0 (l .loop .m) 8 (i .5 (v .0)) ∙ rw (zero-add (l .loop .m), w) in (
+    let u = or-zero (bitOr (l .loop .wrong) (bitXor x (bitOr (b .piece-bytes .result) (bitAnd x 72340172838076673)))) (bitXor y (l .loop .pair)) e in
+    let v = or-zero (l .loop .wrong) (bitXor x (bitOr (b .piece-bytes .result) (bitAnd x 72340172838076673))) (u .0) in
+    let w = piece-own (now (a .primary)) (now (a .secondary)) (a .q .0) (a .len) (a .i) (a .literal) (l .loop .m) x y (firstByte 48 (a .literal)) (l .loop .pair)
+    (b .piece-bytes .result) (λ q. g .before .shared-slice-known .given q .fits) (λ q. g .shared-slice-known2 .given q .fits) (c .before .eight-at .ensures) (c .eight-at2 .ensures)
+    refl (b .piece-bytes .ensures) (i .2) (xor-zero _ _ (v .1)) (xor-zero _ _ (u .1)) (k .0) (k .1) (s .pre .4) (s .fits .len .fits) (k .2)
+    (first-small (a .literal)) in
+    run-on t 0 (l .loop .m) 8 (i .5 (v .0)) ∙ rw (zero-add (l .loop .m), w) in (
       omega arith,
       omega arith,
       omega arith,
       omega (arith, and-le-r x 72340172838076673),
-      rw (odds-split f (a .q .0) (l .loop .m) 8) 
+      rw (odds-split f (a .q .0) (l .loop .m) 8)
           (summed (l .loop .sum) (bitAnd x 72340172838076673) _ _ (l .loop .m) (a .n) (i .4) o (odds-le f (a .q .0) (l .loop .m)) (odds-le f (a .q .0 + l .loop .m) 8)
           (k .3) (s .pre .2)),
       own,

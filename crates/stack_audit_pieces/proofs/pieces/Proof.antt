@@ -36,9 +36,11 @@ least-requires c κs = search needs
 first-byte-requires : tie.Need-first-byte-requires Inv-loop μ-loop
 first-byte-requires c κs = search needs
 
+far-requires : tie.Need-far-requires Inv-loop μ-loop
+far-requires c κs = search needs
+
 loop-holds : tie.Need-loop-holds Inv-loop μ-loop
-unfolding runOf oddBytes
-loop-holds c = (omega arith, omega arith, refl, refl)
+loop-holds c = c .far .ensures
 
 add-loop : tie.Need-add-loop Inv-loop μ-loop
 add-loop c = search needs
@@ -69,25 +71,25 @@ holds-requires c κs = search needs
 
 -- whether the eight bytes are those of the block
 seen : (c : tie.After-holds Inv-loop μ-loop)
-    → let a = c .before .before .before .before .before .before .before .before .before .args in
+    → let a = c .before .before .before .before .before .before .before .before .before .before .args in
     c .holds .result ≡ eqb (runOf (standsAt (now (a .primary)) (now (a .secondary)) (a .q .0) (a .len) (a .i) (a .literal)) (c .before .before .before .before .loop .n) 8) 8
 seen c =
-    let s = c .before .before .before .before .before .before .before .before .before in
+    let s = c .before .before .before .before .before .before .before .before .before .before in
     let a = s .args in
     let l = c .before .before .before .before .loop in
-    let g : a .i + l .n + 8 ≤ a .len = omega (arith, c .before .before .before .before .before .before .least .ensures, c .before .before .before .loop-test .taken) in
+    let g : a .i + l .n + 8 ≤ a .len = omega (arith, c .before .before .before .before .before .before .before .least .ensures, c .before .before .before .loop-test .taken) in
     piece-seen (now (a .primary)) (now (a .secondary)) (a .q .0) (a .len) (a .i) (a .literal) (l .n) (c .before .before .eight-at .result) (c .before .eight-at2 .result)
-    (λ q. c .before .before .before .before .before .before .before .before .shared-slice-known .given q .fits) (λ q. c .before .before .before .before .before .before .before .shared-slice-known2 .given q .fits)
-    (c .before .before .eight-at .ensures) (c .before .eight-at2 .ensures) (c .holds .result) _ (c .before .before .before .before .before .first-byte .ensures .0) (omega arith) (omega (arith, l .inv .0)) (s .pre .1) (s .fits .len .fits) (omega arith) (c .holds .ensures)
+    (λ q. c .before .before .before .before .before .before .before .before .before .shared-slice-known .given q .fits) (λ q. c .before .before .before .before .before .before .before .before .shared-slice-known2 .given q .fits)
+    (c .before .before .eight-at .ensures) (c .before .eight-at2 .ensures) (c .holds .result) _ (c .before .before .before .before .before .before .first-byte .ensures .0) (omega arith) (omega (arith, l .inv .0)) (s .pre .1) (s .fits .len .fits) (omega arith) (c .holds .ensures)
 
 returns : tie.Need-returns Inv-loop μ-loop
 unfolding ownRun
 returns c =
     let l = c .before .before .before .before .before .loop in
-    let a = c .before .before .before .before .before .before .before .before .before .before .args in
+    let a = c .before .before .before .before .before .before .before .before .before .before .before .args in
     let t = standsAt (now (a .primary)) (now (a .secondary)) (a .q .0) (a .len) (a .i) (a .literal) in
     run-is (now (a .primary)) (a .q .0) (l .n) (l .written) _
-    (rw (← c .before .before .before .before .before .before .before .least .ensures) (eights-stop t (l .n) _ (l .inv .0) (l .inv .2) (c .before .before .before .before .loop-test .taken)
+    (rw (← c .before .before .before .before .before .before .before .before .least .ensures) (eights-stop t (l .n) _ (l .inv .0) (l .inv .2) (c .before .before .before .before .loop-test .taken)
     (run-broken t (l .n) 8 (c .before .holds .result) (seen (c .before)) (not-true _ (c .if1 .taken))))) (l .inv .3)
 
 odds-requires : tie.Need-odds-requires Inv-loop μ-loop
@@ -95,9 +97,9 @@ odds-requires c κs = search needs
 
 add-written : tie.Need-add-written Inv-loop μ-loop
 add-written c =
-    let s = c .before .before .before .before .before .before .before .before .before .before .before in
+    let s = c .before .before .before .before .before .before .before .before .before .before .before .before in
     let l = c .before .before .before .before .before .before .loop in
-    omega (arith, l .inv .3, odds-le (at (now (s .args .primary))) (s .args .q .0) (l .n), l .inv .1, c .odds .ensures .1, c .before .before .before .before .before .before .before .before .least .ensures)
+    omega (arith, l .inv .3, odds-le (at (now (s .args .primary))) (s .args .q .0) (l .n), l .inv .1, c .odds .ensures .1, c .before .before .before .before .before .before .before .before .before .least .ensures)
 
 add-n : tie.Need-add-n Inv-loop μ-loop
 add-n c = search needs
@@ -107,14 +109,14 @@ loop-less c = search needs
 
 loop-again : tie.Need-loop-again Inv-loop μ-loop
 loop-again c =
-    let a = c .before .before .before .before .before .before .before .before .before .before .before .args in
+    let a = c .before .before .before .before .before .before .before .before .before .before .before .before .args in
     let l = c .before .before .before .before .before .before .loop in
     let t = standsAt (now (a .primary)) (now (a .secondary)) (a .q .0) (a .len) (a .i) (a .literal) in
     let f : runOf t (l .n) 8 ≡ 8 = run-full t (l .n) 8 (c .before .before .holds .result) (seen (c .before .before)) (not-false _ (c .before .if1 .left)) in
     let o : c .odds .result ≡ oddBytes (at (now (a .primary))) (a .q .0 + l .n) 8 =
     c .odds .ensures .0
     ∙ word-odds (now (a .primary)) (now (a .secondary)) (a .q .0) (a .len) (a .i) (a .literal) (l .n) (c .before .before .before .before .eight-at .result) (c .before .before .before .eight-at2 .result)
-    (λ q. c .before .before .before .before .before .before .before .before .before .before .shared-slice-known .given q .fits) (λ q. c .before .before .before .before .before .before .before .before .before .shared-slice-known2 .given q .fits)
+    (λ q. c .before .before .before .before .before .before .before .before .before .before .before .shared-slice-known .given q .fits) (λ q. c .before .before .before .before .before .before .before .before .before .before .shared-slice-known2 .given q .fits)
     (c .before .before .before .before .eight-at .ensures) (c .before .before .before .eight-at2 .ensures) 8 (omega arith) in (
       omega arith,
       omega arith,
@@ -126,10 +128,10 @@ returns-2 : tie.Need-returns-2 Inv-loop μ-loop
 unfolding ownRun
 returns-2 c =
     let l = c .before .loop in
-    let a = c .before .before .before .before .before .before .args in
+    let a = c .before .before .before .before .before .before .before .args in
     let t = standsAt (now (a .primary)) (now (a .secondary)) (a .q .0) (a .len) (a .i) (a .literal) in
     run-is (now (a .primary)) (a .q .0) (l .n) (l .written) _
-    (rw (← c .before .before .before .least .ensures) (eights-end t (l .n) _ (l .inv .0) (l .inv .2) (l .inv .1) (omega arith))) (l .inv .3)
+    (rw (← c .before .before .before .before .least .ensures) (eights-end t (l .n) _ (l .inv .0) (l .inv .2) (l .inv .1) (omega arith))) (l .inv .3)
 
 pub pieces-spec : {M : Type 1} → statement M
 pieces-spec =
@@ -142,6 +144,7 @@ pieces-spec =
     cast-least
     least-requires
     first-byte-requires
+    far-requires
     loop-holds
     add-loop
     add-eight-at
