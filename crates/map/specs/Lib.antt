@@ -1,2 +1,3 @@
 pub mod FormMap
 pub mod Map
+pub mod Locating

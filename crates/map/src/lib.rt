@@ -5,6 +5,7 @@ ghost use mathlib.Core.Bool.{_&&_};
 ghost use lib.Dec.{eqb, leb};
 ghost use Rattle.map.specs.Map.{goodMap, startOf, endOf};
 ghost use Rattle.map.specs.FormMap.{segmentSize, under};
+ghost use Rattle.map.specs.Locating.{Lies};
 
 pub struct Address(pub u32);
 
@@ -26,6 +27,13 @@ pub enum Form {
 pub enum Area {
     Heap,
     Stack,
+    Outside,
+}
+
+// Where an address lies: its position in the area's shadow.
+pub enum Located {
+    Heap(Position),
+    Stack(Position),
     Outside,
 }
 
@@ -51,20 +59,12 @@ impl Form {
     }
 }
 
-// The position of an address in the shadow of the area that begins at start.
+// The position of an address in the shadow of the area that begins at start, if it lies there. Of one below the start the difference wraps in
+// 64 bits, to above all sizes, so that one comparison tells.
 pub fn to_position(a: Address, start: Address) -> Position
-    requires { ⌜ start .0 ≤ a .0 ⌝ }
-    ensures { λ r. ⌜ r .0 ≡ a .0 - start .0 ⌝ }
+    ensures { λ r. ⌜ (start .0 ≤ a .0 → r .0 ≡ a .0 - start .0) × (a .0 < start .0 → 4294967296 ≤ r .0) ⌝ }
 {
-    Position((a.0 - start.0) as usize)
-}
-
-// How far an address lies above the start of an area: its position there, if it is below the area's size. Of one below the start the
-// difference wraps in 64 bits, to above all sizes: so one comparison tells where it lies, under every map.
-pub fn above(a: Address, start: u32) -> u64
-    ensures { λ r. ⌜ (start ≤ a .0 → r ≡ a .0 - start) × (a .0 < start → 4294967296 ≤ r) ⌝ }
-{
-    std::num::wrapping_sub_u64(a.0 as u64, start as u64)
+    Position(std::num::wrapping_sub_u64(a.0 as u64, start.0 as u64) as usize)
 }
 
 // The address of a shadow position of the area that begins at start.
@@ -115,6 +115,22 @@ impl Map {
             return h + n <= 4294967295;
         }
         false
+    }
+
+    // The area that an address lies in, and its position there; this holds for every map. A choice of the area alone, before the position is
+    // taken, would cost each call ten instructions.
+    pub fn locate(self, a: Address) -> Located
+        ensures { λ r. ⌜ Lies self (a .0) r ⌝ }
+    {
+        let p = to_position(a, Address(self.heap_start));
+        if p.0 < self.heap_size as usize {
+            return Located::Heap(p);
+        }
+        let q = to_position(a, Address(self.stack_start));
+        if q.0 < self.stack_size as usize {
+            return Located::Stack(q);
+        }
+        Located::Outside
     }
 
     // Where an area begins: the origin of its positions.

@@ -10,11 +10,10 @@ ghost use Rattle.monitor_read_laws.specs.Asked.{askReading, baseBelow};
 ghost use Rattle.plain.specs.Call as plain;
 use map::Address;
 use map::Form;
+use map::Located;
 use map::Map;
 use monitor_base::Answer;
-use monitor_base::Located;
 use monitor_base::guard;
-use monitor_base::locating::locate;
 use plain::Reading;
 
 // What ask answers to a reading in the area that begins at start: of its two bits, the one for written.
@@ -53,7 +52,7 @@ pub fn ask(
     if k != 0 {
         return guard::refusal(k);
     }
-    match locate(map, a) {
+    match map.locate(a) {
         Located::Heap(p) => told(heap_forms::read(form, heap, p), Address(map.heap_start)),
         Located::Stack(p) => told(
             stack_read::read(primary, secondary, p),

@@ -1,8 +1,9 @@
-// What every call of the monitor rests on: its answer, the check of map and lengths, and where an address lies.
+// What every call of the monitor rests on: its answer, the check of map and lengths, and where an area ends.
 pub mod guard;
 pub mod locating;
 
 use map::Address;
+use map::Located;
 use map::Position;
 use plain::Beginning;
 
@@ -44,13 +45,6 @@ pub enum Call {
 pub enum PlainCall {
     Call(Call),
     Place(u32, u32),
-}
-
-// Where an address lies: its position in the area's shadow.
-pub enum Located {
-    Heap(Position),
-    Stack(Position),
-    Outside,
 }
 
 // What the check of a call that ends a block found: the block's position and length, or, where nothing is to be erased, the number.

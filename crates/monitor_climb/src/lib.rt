@@ -5,13 +5,13 @@ ghost use Prim.Native.Nat.{_+_, _≤_, max};
 ghost use lib.ListN.{length};
 ghost use Rattle.map.specs.FormMap.{under};
 ghost use Rattle.map.specs.Map.{goodMap};
-ghost use Rattle.monitor_base.specs.Locating.{Lies};
+ghost use Rattle.map.specs.Locating.{Lies};
 ghost use Rattle.monitor_read_laws.specs.Climbed.{startAbove, Skips};
 use map::Address;
 use map::Area;
 use map::Form;
+use map::Located;
 use map::Map;
-use monitor_base::Located;
 
 // The end of the areas: no address from it on lies in one.
 pub fn top(map: Map) -> Address

@@ -9,10 +9,9 @@ ghost use Rattle.monitor_base.specs.Calls.{call};
 ghost use Rattle.monitor_write_laws.specs.Checks.{freedBy, Freeable};
 use map::Address;
 use map::Form;
+use map::Located;
 use map::Map;
 use monitor_base::Ending;
-use monitor_base::Located;
-use monitor_base::locating::locate;
 use monitor_ending::ending;
 
 // Only the first byte of a heap block is accepted, and C's null pointer.
@@ -29,7 +28,7 @@ pub fn check(
         ≡ call (under form map) (plain.free (base .0)) (now (heap .entry), (now (primary .entry), now (secondary .entry))))
         × Freeable (under form map) (now (heap .entry), (now (primary .entry), now (secondary .entry))) (base .0) r ⌝ }
 {
-    match locate(map, base) {
+    match map.locate(base) {
         Located::Heap(p) => ending(heap_forms::read(form, heap, p), p),
         Located::Stack(_) => Ending::Settled(15),
         Located::Outside => {

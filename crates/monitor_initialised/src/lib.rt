@@ -15,12 +15,11 @@ ghost use Rattle.monitor_base.specs.Calls.{call};
 ghost use Rattle.monitor_read_laws.specs.Asked.{initialisedAnswer};
 use map::Address;
 use map::Form;
+use map::Located;
 use map::Map;
 use map::Position;
 use monitor_base::Answer;
-use monitor_base::Located;
 use monitor_base::guard;
-use monitor_base::locating::locate;
 use plain::Reading;
 
 // In the heap.
@@ -73,7 +72,7 @@ pub fn initialised(
     if n == 0 {
         return guard::refusal(3);
     }
-    match locate(map, a) {
+    match map.locate(a) {
         Located::Heap(p) => written_heap(form, heap, p, n),
         Located::Stack(p) => written_stack(primary, secondary, p, n),
         Located::Outside => monitor_yes_no::yes_no(false),

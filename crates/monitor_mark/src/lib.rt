@@ -6,7 +6,7 @@ ghost use Rattle.map.specs.FormMap.{numberSize, segmentSize};
 ghost use Rattle.shadows.specs.Shadows.{Shadows};
 ghost use Rattle.monitor_write_laws.specs.Checks.{Markable, markedAt};
 use map::Form;
-use monitor_base::Located;
+use map::Located;
 
 // Sets the written bits of the n bytes from the place on that the check found. The secondary has no part in them.
 pub fn mark(form: Form, heap: &mut [u8], primary: &mut [u8], place: Located, n: u32)

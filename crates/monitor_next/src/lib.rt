@@ -15,7 +15,6 @@ use map::Form;
 use map::Map;
 use monitor_base::Answer;
 use monitor_base::guard;
-use monitor_base::locating::locate;
 
 // What the search comes to: base and length, no block, or a damaged reading before one.
 pub enum Search {
@@ -36,7 +35,7 @@ fn climb(form: Form, map: Map, heap: &[u8], primary: &[u8], secondary: &[u8], a:
         if top.0 <= at.0 {
             break Search::None;
         }
-        let l = locate(map, at);
+        let l = map.locate(at);
         let r = monitor_reading::reading(form, heap, primary, secondary, l);
         if monitor_reading::damaged(r) {
             break Search::Damaged;

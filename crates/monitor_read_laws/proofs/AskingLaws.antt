@@ -26,9 +26,9 @@ use Rattle.stack_layout.specs.Reading.{stackReading}
 use Rattle.stack_layout.proofs.ReadingLaws as stack
 use Rattle.shadows.specs.Shadows.{Shadows, lengthsFit, shadowOps}
 use Rattle.monitor_base.specs.Calls.{call}
-use Rattle.monitor_base.specs.Locating.{Lies}
-use Rattle.monitor_base.specs.declared.Located.{Located}
-use Rattle.monitor_base.specs.declared.Located.the-variants.{Heap, Stack, Outside}
+use Rattle.map.specs.Locating.{Lies}
+use Rattle.map.specs.declared.Located.{Located}
+use Rattle.map.specs.declared.Located.the-variants.{Heap, Stack, Outside}
 use Rattle.monitor_base.proofs.CallLaws.{call-step}
 use Rattle.monitor_base.proofs.LocatingLaws.{heap-lengths, stack-lengths, ends, heap-there, stack-there, read-heap, read-stack, read-out}
 use Rattle.monitor_read_laws.specs.Asked.{There, readingAt, askReading, baseBelow}

@@ -27,9 +27,9 @@ use Rattle.heap_layout.proofs.ReadingLaws as heap
 use Rattle.stack_layout.specs.Reading.{stackReading}
 use Rattle.stack_layout.proofs.ReadingLaws as stack
 use Rattle.shadows.specs.Shadows.{Shadows, lengthsFit, shadowOps}
-use Rattle.monitor_base.specs.Locating.{Lies}
-use Rattle.monitor_base.specs.declared.Located.{Located}
-use Rattle.monitor_base.specs.declared.Located.the-variants.{Heap, Stack, Outside}
+use Rattle.map.specs.Locating.{Lies}
+use Rattle.map.specs.declared.Located.{Located}
+use Rattle.map.specs.declared.Located.the-variants.{Heap, Stack, Outside}
 use Rattle.monitor_base.proofs.LocatingLaws.{heap-lengths, stack-lengths, heap-there, stack-there, area-heap, area-stack, area-out, read-heap, read-stack, read-out}
 use Rattle.monitor_read_laws.specs.Asked.{readingAt, originOf}
 use Rattle.monitor_read_laws.specs.Climbed.{startAbove, Skips}

@@ -15,8 +15,8 @@ use Rattle.plain.specs.Reading.{Reading, nothing, block, damaged}
 use Rattle.plain.specs.ShadowCalls.{isDamaged, inOne, isLiteral, sameBlock}
 use Rattle.heap_layout.specs.Reading.{heapReading}
 use Rattle.stack_layout.specs.Reading.{stackReading}
-use Rattle.monitor_base.specs.declared.Located.{Located}
-use Rattle.monitor_base.specs.declared.Located.the-variants.{Heap, Stack, Outside}
+use Rattle.map.specs.declared.Located.{Located}
+use Rattle.map.specs.declared.Located.the-variants.{Heap, Stack, Outside}
 
 -- the position lies in the area's shadows, whose lengths are those of a good map
 abbrev pub There : (G : ℕ) → Located → (heap primary secondary : List ℕ) → Type 0

@@ -10,8 +10,8 @@ use Rattle.number.specs.Parts.{at}
 use Rattle.map.specs.declared.Map.{Map}
 use Rattle.map.specs.FormMap.{FormMap, areas}
 use Rattle.heap_laws.specs.Climb.{FreeSegments}
-use Rattle.monitor_base.specs.declared.Located.{Located}
-use Rattle.monitor_base.specs.declared.Located.the-variants.{Heap, Stack, Outside}
+use Rattle.map.specs.declared.Located.{Located}
+use Rattle.map.specs.declared.Located.the-variants.{Heap, Stack, Outside}
 
 -- the bytes after position p, to before r, are 0
 abbrev pub FreeBytes : (size : ℕ) → (f : ℕ → ℕ) → (p r : ℕ) → Type 0

@@ -6,7 +6,7 @@ ghost use Rattle.plain.specs.Answers.{readingOf};
 ghost use Rattle.plain.specs.ShadowCalls.{isDamaged, isFirst, inOne, lengthOf};
 ghost use Rattle.monitor_read_laws.specs.Asked.{There, readingAt};
 use map::Form;
-use monitor_base::Located;
+use map::Located;
 use plain::Reading;
 
 // The player's, by positions: in the heap, in the stack, or nothing outside both.

@@ -2,17 +2,16 @@
 ghost use mathlib.Core.Path.{_≡_};
 ghost use Rattle.map.specs.FormMap.{segmentSize, under};
 ghost use Rattle.plain.specs.Call as plain;
-ghost use Rattle.monitor_base.specs.Locating.{Lies};
+ghost use Rattle.map.specs.Locating.{Lies};
 ghost use Rattle.monitor_write_laws.specs.Checks.{numberOf, Stampable};
 use map::Address;
 use map::Area;
 use map::Form;
+use map::Located;
 use map::Map;
 use monitor_base::Checked;
-use monitor_base::Located;
 use monitor_base::guard;
 use monitor_base::locating::end;
-use monitor_base::locating::locate;
 use plain::Beginning;
 
 // The number, which depends on how the block begins in the heap alone, where no literal does; where it is 0, the block can be stamped at the
@@ -43,7 +42,7 @@ pub fn check(
             place: Located::Outside,
         };
     }
-    let place = locate(map, base);
+    let place = map.locate(base);
     match place {
         Located::Heap(p) => {
             if let Beginning::Literal = how {

@@ -9,10 +9,9 @@ ghost use Rattle.monitor_base.specs.Calls.{call};
 ghost use Rattle.monitor_write_laws.specs.Checks.{removedBy, Removable};
 use map::Address;
 use map::Form;
+use map::Located;
 use map::Map;
 use monitor_base::Ending;
-use monitor_base::Located;
-use monitor_base::locating::locate;
 use monitor_ending::ending;
 
 // Only the first byte of a stack block is accepted.
@@ -29,7 +28,7 @@ pub fn check(
         ≡ call (under form map) (plain.remove (base .0)) (now (heap .entry), (now (primary .entry), now (secondary .entry))))
         × Removable (under form map) (now (heap .entry), (now (primary .entry), now (secondary .entry))) (base .0) r ⌝ }
 {
-    match locate(map, base) {
+    match map.locate(base) {
         Located::Stack(p) => {
             // A block of four or eight bytes needs no reading.
             let n = stack_whole_first::length_at(primary, p);

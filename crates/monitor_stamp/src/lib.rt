@@ -4,7 +4,7 @@ ghost use Rattle.map.specs.FormMap.{numberSize, segmentSize};
 ghost use Rattle.shadows.specs.Shadows.{Shadows};
 ghost use Rattle.monitor_write_laws.specs.Checks.{Stampable, stampedAt};
 use map::Form;
-use monitor_base::Located;
+use map::Located;
 use plain::Beginning;
 
 // The block joins at the place that the check found, as it begins.

@@ -19,12 +19,11 @@ ghost use Rattle.monitor_base.specs.Calls.{call};
 ghost use Rattle.monitor_read_laws.specs.Asked.{validAnswer};
 use map::Address;
 use map::Form;
+use map::Located;
 use map::Map;
 use map::Position;
 use monitor_base::Answer;
-use monitor_base::Located;
 use monitor_base::guard;
-use monitor_base::locating::locate;
 use plain::Reading;
 
 // What valid answers where the first of n bytes lies in the heap, which holds no literal: write plays no part.
@@ -43,7 +42,7 @@ fn valid_heap(
         (readAny (mapRules (under form map)) (shadowOps (under form map)) (now (heap .entry), (now (primary .entry), now (secondary .entry))) (from .0))) ⌝ }
 {
     let first = heap_forms::read(form, heap, p);
-    match locate(map, from) {
+    match map.locate(from) {
         Located::Heap(q) => {
             monitor_yes_no::judged(first, n, heap_forms::read(form, heap, q), false)
         }
@@ -70,7 +69,7 @@ fn valid_stack(
         (readAny (mapRules (under form map)) (shadowOps (under form map)) (now (heap .entry), (now (primary .entry), now (secondary .entry))) (from .0)) ⌝ }
 {
     let first = stack_read::read(primary, secondary, p);
-    match locate(map, from) {
+    match map.locate(from) {
         Located::Stack(q) => {
             monitor_yes_no::judged(first, n, stack_read::read(primary, secondary, q), write)
         }
@@ -92,7 +91,7 @@ fn valid_outside(
     ensures { λ r. ⌜ ((write : Bool) (n : ℕ) → answerOf r ≡ validAnswer write n nothing
         (readAny (mapRules (under form map)) (shadowOps (under form map)) (now (heap .entry), (now (primary .entry), now (secondary .entry))) (from .0))) ⌝ }
 {
-    match locate(map, from) {
+    match map.locate(from) {
         Located::Heap(q) => monitor_yes_no::apart(
             Reading::Nothing,
             heap_forms::read(form, heap, q),
@@ -131,7 +130,7 @@ pub fn valid(
     if a.0 == from.0 {
         return monitor_valid_alone::alone(form, map, heap, primary, secondary, a, n, write);
     }
-    match locate(map, a) {
+    match map.locate(a) {
         Located::Heap(p) => valid_heap(form, map, heap, primary, secondary, p, n, from),
         Located::Stack(p) => valid_stack(form, map, heap, primary, secondary, p, n, from, write),
         Located::Outside => valid_outside(form, map, heap, primary, secondary, from),

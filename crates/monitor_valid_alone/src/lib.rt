@@ -10,10 +10,9 @@ ghost use Rattle.monitor_base.specs.Answers.{answerOf};
 ghost use Rattle.monitor_read_laws.specs.Asked.{validAnswer};
 use map::Address;
 use map::Form;
+use map::Located;
 use map::Map;
 use monitor_base::Answer;
-use monitor_base::Located;
-use monitor_base::locating::locate;
 use monitor_yes_no::judged;
 use monitor_yes_no::yes_no;
 
@@ -33,7 +32,7 @@ pub fn alone(
         (readAny (mapRules (under form map)) (shadowOps (under form map)) (now (heap .entry), (now (primary .entry), now (secondary .entry))) (a .0))
         (readAny (mapRules (under form map)) (shadowOps (under form map)) (now (heap .entry), (now (primary .entry), now (secondary .entry))) (a .0)) ⌝ }
 {
-    match locate(map, a) {
+    match map.locate(a) {
         Located::Heap(p) => {
             let r = heap_forms::read(form, heap, p);
             judged(r, n, r, false)

@@ -22,9 +22,9 @@ use Rattle.plain.specs.ShadowCalls.{lengthOf}
 use Rattle.heap_layout.specs.Reading.{heapReading}
 use Rattle.stack_layout.specs.Reading.{stackReading}
 use Rattle.shadows.specs.Shadows.{Shadows, lengthsFit, shadowOps}
-use Rattle.monitor_base.specs.Locating.{Lies}
+use Rattle.map.specs.Locating.{Lies}
 use Rattle.monitor_base.specs.Calls.{call}
-use Rattle.monitor_base.specs.declared.Located.the-variants.{Heap, Stack}
+use Rattle.map.specs.declared.Located.the-variants.{Heap, Stack}
 use Rattle.monitor_base.proofs.CallLaws.{call-step}
 use Rattle.monitor_base.proofs.LocatingLaws.{heap-there, stack-there, read-heap, read-stack, out-inside}
 use Rattle.monitor_write_laws.specs.Checks.{endingOf, freedBy, removedBy, blockLength, Freeable, Removable}

@@ -26,10 +26,10 @@ use Rattle.plain.proofs.Beginning.{the-type}
 use Rattle.plain.proofs.AreaLaws.{heap-span, stack-span}
 use Rattle.plain.proofs.RunLaws.{unless-number}
 use Rattle.shadows.specs.Shadows.{Shadows, lengthsFit, shadowOps}
-use Rattle.monitor_base.specs.Locating.{Lies}
+use Rattle.map.specs.Locating.{Lies}
 use Rattle.monitor_base.specs.Calls.{call}
-use Rattle.monitor_base.specs.declared.Located.{Located}
-use Rattle.monitor_base.specs.declared.Located.the-variants.{Heap, Stack, Outside}
+use Rattle.map.specs.declared.Located.{Located}
+use Rattle.map.specs.declared.Located.the-variants.{Heap, Stack, Outside}
 use Rattle.monitor_base.proofs.LocatingLaws.{area-heap, heap-there, stack-there}
 use Rattle.monitor_write_laws.specs.AreaCalls.{onHeap, onStack}
 use Rattle.monitor_write_laws.specs.Checks.{numberOf, Stampable, stampedAt}

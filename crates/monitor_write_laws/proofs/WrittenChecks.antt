@@ -19,10 +19,10 @@ use Rattle.plain.proofs.RunLaws.{unless-number}
 use Rattle.heap_layout.specs.Reading.{heapReading}
 use Rattle.stack_layout.specs.Reading.{stackReading}
 use Rattle.shadows.specs.Shadows.{Shadows, lengthsFit, shadowOps}
-use Rattle.monitor_base.specs.Locating.{Lies}
+use Rattle.map.specs.Locating.{Lies}
 use Rattle.monitor_base.specs.Calls.{call}
-use Rattle.monitor_base.specs.declared.Located.{Located}
-use Rattle.monitor_base.specs.declared.Located.the-variants.{Heap, Stack, Outside}
+use Rattle.map.specs.declared.Located.{Located}
+use Rattle.map.specs.declared.Located.the-variants.{Heap, Stack, Outside}
 use Rattle.monitor_base.proofs.LocatingLaws.{heap-there, read-heap, read-stack, out-inside, heap-literal, heap-room, stack-room}
 use Rattle.monitor_write_laws.specs.AreaCalls.{writtenRefusal}
 use Rattle.monitor_write_laws.specs.Checks.{numberOf, Idle, Markable, markedAt}

@@ -19,11 +19,11 @@ use Rattle.heap_layout.specs.Ops.{heapOps, heapStamp, heapErase}
 use Rattle.stack_layout.specs.Ops.{stackOps, stackVacant, stackStamp, stackErase}
 use Rattle.shadows.specs.Shadows.{Shadows, shadowOps}
 use Rattle.monitor_base.specs.Calls.{call}
-use Rattle.monitor_base.specs.Locating.{Lies}
+use Rattle.map.specs.Locating.{Lies}
 use Rattle.monitor_base.specs.declared.Ending.{Ending}
 use Rattle.monitor_base.specs.declared.Ending.the-variants.{Block, Settled}
-use Rattle.monitor_base.specs.declared.Located.{Located}
-use Rattle.monitor_base.specs.declared.Located.the-variants.{Heap, Stack, Outside}
+use Rattle.map.specs.declared.Located.{Located}
+use Rattle.map.specs.declared.Located.the-variants.{Heap, Stack, Outside}
 
 -- the number of a call: the first refusal that holds, or 0
 abbrev pub numberOf : FormMap → Call → Shadows → ℕ

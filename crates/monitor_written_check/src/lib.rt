@@ -3,16 +3,15 @@ ghost use mathlib.Core.Path.{_≡_};
 ghost use Rattle.map.specs.FormMap.{segmentSize, under};
 ghost use Rattle.plain.specs.Answers.{readingOf};
 ghost use Rattle.plain.specs.Call as plain;
-ghost use Rattle.monitor_base.specs.Locating.{Lies};
+ghost use Rattle.map.specs.Locating.{Lies};
 ghost use Rattle.monitor_write_laws.specs.AreaCalls.{writtenRefusal};
 ghost use Rattle.monitor_write_laws.specs.Checks.{numberOf, Idle, Markable};
 use map::Address;
 use map::Form;
+use map::Located;
 use map::Map;
 use monitor_base::Checked;
-use monitor_base::Located;
 use monitor_base::guard;
-use monitor_base::locating::locate;
 use plain::Reading;
 
 // The number that a reading of the first of n bytes gives, in an area with literals or in one without: 0 where they lie in one block, which is
@@ -73,7 +72,7 @@ pub fn check(
             place: Located::Outside,
         };
     }
-    match locate(map, a) {
+    match map.locate(a) {
         Located::Heap(p) => in_area(
             refused(heap_forms::read(form, heap, p), n, false),
             Located::Heap(p),

@@ -2,7 +2,7 @@
 ghost use mathlib.Core.Path.{_≡_};
 ghost use Rattle.cells_layout.specs.Cells.{Cells};
 ghost use Rattle.origins_laws.specs.CellsAt.{CellAt, setOriginAt, setReferentAt};
-use monitor_base::Located;
+use map::Located;
 
 pub fn set_origin(heap_cells: &mut [u8], stack_cells: &mut [u8], l: Located, value: u32)
     requires { ⌜ CellAt l (now «heap_cells», now «stack_cells») ⌝ }

@@ -3,7 +3,7 @@ ghost use mathlib.Core.Path.{_≡_};
 ghost use Rattle.plain.specs.Answers.{readingOf};
 ghost use Rattle.origins_laws.specs.CellsAt.{CellAt, referentAt, originIn, originAt};
 ghost use Rattle.origins_laws.specs.Pointers.{BaseIn, BaseAt};
-use monitor_base::Located;
+use map::Located;
 use plain::Reading;
 
 pub fn referent(heap_cells: &[u8], stack_cells: &[u8], l: Located) -> u32

@@ -3,9 +3,8 @@ ghost use mathlib.Core.Path.{_≡_};
 ghost use Rattle.cells_layout.specs.Cells.{cellOps};
 ghost use Rattle.origins_laws.specs.Pointers.{copyNumber, CellLies};
 use map::Address;
+use map::Located;
 use map::Map;
-use monitor_base::Located;
-use monitor_base::locating::locate;
 use origins_base::guard;
 use origins_cells_read::referent;
 use origins_pointer::Aim;
@@ -40,13 +39,13 @@ pub fn check(
     if k != 0 {
         return refused(k);
     }
-    let place = locate(map, to);
+    let place = map.locate(to);
     let there = match place {
         Located::Heap(p) => heap_read::read(heap, p),
         Located::Stack(p) => stack_read::read(primary, secondary, p),
         Located::Outside => return refused(4),
     };
-    let source = locate(map, from);
+    let source = map.locate(from);
     let held = match source {
         Located::Heap(p) => heap_read::read(heap, p),
         Located::Stack(p) => stack_read::read(primary, secondary, p),

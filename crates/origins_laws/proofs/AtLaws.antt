@@ -21,9 +21,9 @@ use Rattle.heap_layout.proofs.ReadingLaws as heap
 use Rattle.stack_layout.specs.Reading.{stackReading}
 use Rattle.stack_layout.proofs.ReadingLaws as stack
 use Rattle.shadows.specs.Shadows.{Shadows, lengthsFit, shadowOps}
-use Rattle.monitor_base.specs.declared.Located.{Located}
-use Rattle.monitor_base.specs.declared.Located.the-variants.{Heap, Stack, Outside}
-use Rattle.monitor_base.specs.Locating.{Lies}
+use Rattle.map.specs.declared.Located.{Located}
+use Rattle.map.specs.declared.Located.the-variants.{Heap, Stack, Outside}
+use Rattle.map.specs.Locating.{Lies}
 use Rattle.monitor_base.proofs.LocatingLaws.{area-heap, area-stack, heap-position, stack-position, read-heap, read-stack, read-out, heap-lengths, stack-lengths}
 use Rattle.monitor_read_laws.specs.Asked.{readingAt}
 use Rattle.origins_list.specs.StateCalls.{originRead}

@@ -15,9 +15,9 @@ use Rattle.plain.specs.Ops.{readAny}
 use Rattle.plain.specs.Call.{Answer, refusal, done, yesNo, firstOf, unless}
 use Rattle.plain.specs.ShadowCalls.{isDamaged, inOne}
 use Rattle.shadows.specs.Shadows.{Shadows, lengthsFit, shadowOps}
-use Rattle.monitor_base.specs.declared.Located.{Located}
-use Rattle.monitor_base.specs.declared.Located.the-variants.{Heap, Stack, Outside}
-use Rattle.monitor_base.specs.Locating.{Lies}
+use Rattle.map.specs.declared.Located.{Located}
+use Rattle.map.specs.declared.Located.the-variants.{Heap, Stack, Outside}
+use Rattle.map.specs.Locating.{Lies}
 use Rattle.monitor_base.proofs.LocatingLaws.{read-heap, read-stack, read-out}
 use Rattle.monitor_read_laws.specs.Asked.{readingAt}
 use Rattle.monitor_read_laws.proofs.JudgingLaws.{up-damaged, up-one}

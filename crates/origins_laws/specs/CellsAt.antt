@@ -4,8 +4,8 @@ use mathlib.Core.List.{List}
 use Prim.Native.Nat.{ℕ, _*_, _%_, _≤_, _<_}
 use lib.ListN.{length}
 use Rattle.plain.specs.Reading.{Reading, nothing, block, damaged}
-use Rattle.monitor_base.specs.declared.Located.{Located}
-use Rattle.monitor_base.specs.declared.Located.the-variants.{Heap, Stack, Outside}
+use Rattle.map.specs.declared.Located.{Located}
+use Rattle.map.specs.declared.Located.the-variants.{Heap, Stack, Outside}
 use Rattle.cells_layout.specs.Area.{originPlace, referentPlace, halfAt, setHalf, zeroCells}
 use Rattle.cells_layout.specs.Cells.{Cells}
 

@@ -12,9 +12,9 @@ use Rattle.plain.specs.Reading.{Reading, nothing, block, damaged}
 use Rattle.plain.specs.Ops.{readAny}
 use Rattle.plain.specs.ShadowCalls.{isDamaged, inOne}
 use Rattle.shadows.specs.Shadows.{Shadows, shadowOps}
-use Rattle.monitor_base.specs.Locating.{Lies}
-use Rattle.monitor_base.specs.declared.Located.{Located}
-use Rattle.monitor_base.specs.declared.Located.the-variants.{Heap, Stack, Outside}
+use Rattle.map.specs.Locating.{Lies}
+use Rattle.map.specs.declared.Located.{Located}
+use Rattle.map.specs.declared.Located.the-variants.{Heap, Stack, Outside}
 use Rattle.origins_list.specs.Call.{point, copy, isCell}
 use Rattle.origins_list.specs.StateCalls.{originRead}
 use Rattle.cells_layout.specs.Cells.{Cells, cellOps}

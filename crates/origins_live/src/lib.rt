@@ -6,11 +6,10 @@ ghost use Rattle.origins_list.specs.Call as form;
 ghost use Rattle.origins_base.specs.Answers.{lent, outcomeAt};
 ghost use Rattle.origins_base.specs.Calls.{call};
 use map::Address;
+use map::Located;
 use map::Map;
 use monitor_base::Answer;
-use monitor_base::Located;
 use monitor_base::guard;
-use monitor_base::locating::locate;
 use monitor_yes_no::yes_no;
 use origins_base::guard::checked;
 use origins_cells_read::origin_of;
@@ -44,13 +43,13 @@ pub fn live(
     if k != 0 {
         return guard::refusal(k);
     }
-    let place = locate(map, cell);
+    let place = map.locate(cell);
     let held = match place {
         Located::Heap(p) => heap_read::read(heap, p),
         Located::Stack(p) => stack_read::read(primary, secondary, p),
         Located::Outside => return guard::refusal(4),
     };
-    let target = locate(map, a);
+    let target = map.locate(a);
     let told = match target {
         Located::Heap(p) => heap_read::read(heap, p),
         Located::Stack(p) => stack_read::read(primary, secondary, p),

@@ -2,9 +2,8 @@
 ghost use mathlib.Core.Path.{_≡_};
 ghost use Rattle.origins_laws.specs.Pointers.{pointNumber, originHeld, CellLies};
 use map::Address;
+use map::Located;
 use map::Map;
-use monitor_base::Located;
-use monitor_base::locating::locate;
 use origins_base::guard;
 use origins_cells_read::origin_of;
 use origins_pointer::Aim;
@@ -41,13 +40,13 @@ pub fn check(
     if k != 0 {
         return refused(k);
     }
-    let place = locate(map, cell);
+    let place = map.locate(cell);
     let held = match place {
         Located::Heap(p) => heap_read::read(heap, p),
         Located::Stack(p) => stack_read::read(primary, secondary, p),
         Located::Outside => return refused(4),
     };
-    let target = locate(map, a);
+    let target = map.locate(a);
     let told = match target {
         Located::Heap(p) => heap_read::read(heap, p),
         Located::Stack(p) => stack_read::read(primary, secondary, p),

@@ -3,7 +3,7 @@ ghost use mathlib.Core.Path.{_≡_};
 ghost use Rattle.plain.specs.Answers.{readingOf};
 ghost use Rattle.origins_laws.specs.Pointers.{holdsPointer, pointRefusal, copyRefusal};
 use map::Address;
-use monitor_base::Located;
+use map::Located;
 use monitor_reading::damaged;
 use monitor_reading::in_one;
 use plain::Reading;

@@ -3,7 +3,7 @@ ghost use mathlib.Core.Path.{_≡_};
 ghost use Prim.Native.Nat.{_≤_};
 ghost use Rattle.map.specs.FormMap.{player};
 ghost use Rattle.plain.specs.Call as calls;
-ghost use Rattle.monitor_base.specs.Locating.{Lies};
+ghost use Rattle.map.specs.Locating.{Lies};
 ghost use Rattle.monitor_write_laws.specs.Checks as checks;
 ghost use Rattle.origins_list.specs.Call.{plain};
 ghost use Rattle.origins_base.specs.Answers.{lent};

@@ -17,9 +17,9 @@ use Rattle.plain.specs.Call.{free, Answer, number, refusal, done}
 use Rattle.plain.specs.ShadowCalls.{shadowAnswer}
 use Rattle.shadows.specs.Shadows.{Shadows, lengthsFit, shadowOps}
 use Rattle.monitor_base.specs.Calls as plainForm
-use Rattle.monitor_base.specs.Locating.{Lies}
-use Rattle.monitor_base.specs.declared.Located.{Located}
-use Rattle.monitor_base.specs.declared.Located.the-variants.{Heap, Outside}
+use Rattle.map.specs.Locating.{Lies}
+use Rattle.map.specs.declared.Located.{Located}
+use Rattle.map.specs.declared.Located.the-variants.{Heap, Outside}
 use Rattle.monitor_write_laws.specs.Checks.{blockLength}
 use Rattle.monitor_write_laws.proofs.CheckLaws.{told, number-good}
 use Rattle.cells_layout.specs.Cells.{Cells, cellsFit, cellOps}

@@ -15,9 +15,9 @@ use Rattle.plain.specs.Block.{begun}
 use Rattle.plain.specs.Areas.{mapRules}
 use Rattle.plain.specs.Call.{Answer, begin, refusal, done, firstOf, unless, allows}
 use Rattle.shadows.specs.Shadows.{Shadows, lengthsFit, shadowOps}
-use Rattle.monitor_base.specs.Locating.{Lies}
-use Rattle.monitor_base.specs.declared.Located.{Located}
-use Rattle.monitor_base.specs.declared.Located.the-variants.{Outside}
+use Rattle.map.specs.Locating.{Lies}
+use Rattle.map.specs.declared.Located.{Located}
+use Rattle.map.specs.declared.Located.the-variants.{Outside}
 use Rattle.monitor_write_laws.specs.Checks as checks
 use Rattle.monitor_write_laws.specs.Checks.{Stampable, stampedAt}
 use Rattle.plain.proofs.RunLaws.{unless-number}

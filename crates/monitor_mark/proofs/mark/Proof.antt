@@ -5,7 +5,7 @@ use Prim.Native.Nat.{ℕ}
 use denote.Ref.{now}
 use Rattle.map.specs.FormMap.{segmentSize}
 use Rattle.stack_layout.specs.Ops.{StackShadows}
-use Rattle.monitor_base.specs.declared.Located.{Located}
+use Rattle.map.specs.declared.Located.{Located}
 use Rattle.monitor_write_laws.specs.Checks.{Markable}
 use borrow.Author.Needs.{needs}
 use Rattle.monitor_mark.proofs.mark.Statement.{statement}

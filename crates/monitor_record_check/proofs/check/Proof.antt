@@ -6,9 +6,9 @@ use denote.Ref.{now}
 use Rattle.map.specs.Map.{goodMap}
 use Rattle.plain.specs.Call.{Call, begin}
 use Rattle.shadows.specs.Shadows.{Shadows, lengthsFit}
-use Rattle.monitor_base.specs.Locating.{Lies}
-use Rattle.monitor_base.specs.declared.Located.{Located}
-use Rattle.monitor_base.specs.declared.Located.the-variants.{Heap, Stack, Outside}
+use Rattle.map.specs.Locating.{Lies}
+use Rattle.map.specs.declared.Located.{Located}
+use Rattle.map.specs.declared.Located.the-variants.{Heap, Stack, Outside}
 use Rattle.monitor_base.proofs.CallLaws.{early-good}
 use Rattle.monitor_base.proofs.LocatingLaws.{ends, heap-there, stack-there, heap-end, stack-end}
 use Rattle.monitor_write_laws.proofs.CheckLaws.{number-early}

@@ -7,9 +7,9 @@ use lib.ListN.{length}
 use Rattle.number.specs.Parts.{at}
 use Rattle.stack_laws.proofs.WholeLaws.{length-read}
 use Rattle.shadows.specs.Shadows.{Shadows}
-use Rattle.monitor_base.specs.Locating.{Lies}
-use Rattle.monitor_base.specs.declared.Located.{Located}
-use Rattle.monitor_base.specs.declared.Located.the-variants.{Heap, Stack, Outside}
+use Rattle.map.specs.Locating.{Lies}
+use Rattle.map.specs.declared.Located.{Located}
+use Rattle.map.specs.declared.Located.the-variants.{Heap, Stack, Outside}
 use Rattle.monitor_base.proofs.LocatingLaws.{stack-there}
 use Rattle.monitor_write_laws.proofs.EndChecks.{outside-removed, heap-removed, stack-removed, removable}
 use borrow.Author.Needs.{needs}

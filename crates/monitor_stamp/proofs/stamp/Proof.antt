@@ -6,7 +6,7 @@ use denote.Ref.{now}
 use Rattle.map.specs.FormMap.{segmentSize}
 use Rattle.shadows.specs.Shadows.{Shadows}
 use Rattle.stack_layout.specs.Ops.{StackShadows}
-use Rattle.monitor_base.specs.declared.Located.{Located}
+use Rattle.map.specs.declared.Located.{Located}
 use Rattle.monitor_write_laws.specs.Checks.{Stampable}
 use borrow.Author.Needs.{needs}
 use Rattle.monitor_stamp.proofs.stamp.Statement.{statement}

@@ -1,9 +1,9 @@
 -- `monitor_valid::valid_outside` meets its contract: one arm for each area of the other byte. Assumes nothing.
 use denote.Ref.{now}
 use Rattle.shadows.specs.Shadows.{Shadows}
-use Rattle.monitor_base.specs.Locating.{Lies}
-use Rattle.monitor_base.specs.declared.Located.{Located}
-use Rattle.monitor_base.specs.declared.Located.the-variants.{Heap, Stack, Outside}
+use Rattle.map.specs.Locating.{Lies}
+use Rattle.map.specs.declared.Located.{Located}
+use Rattle.map.specs.declared.Located.the-variants.{Heap, Stack, Outside}
 use Rattle.monitor_base.proofs.LocatingLaws.{heap-there, stack-there}
 use Rattle.monitor_read_laws.proofs.RangingLaws.{valid-out-heap, valid-out-stack, valid-out-out}
 use borrow.Author.Needs.{needs}

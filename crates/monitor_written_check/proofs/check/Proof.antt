@@ -12,9 +12,9 @@ use Rattle.plain.specs.Call.{written}
 use Rattle.plain.specs.Reading.{Reading, block}
 use Rattle.stack_laws.proofs.WholeLaws.{plain-read}
 use Rattle.shadows.specs.Shadows.{Shadows, lengthsFit}
-use Rattle.monitor_base.specs.Locating.{Lies}
-use Rattle.monitor_base.specs.declared.Located.{Located}
-use Rattle.monitor_base.specs.declared.Located.the-variants.{Heap, Stack, Outside}
+use Rattle.map.specs.Locating.{Lies}
+use Rattle.map.specs.declared.Located.{Located}
+use Rattle.map.specs.declared.Located.the-variants.{Heap, Stack, Outside}
 use Rattle.monitor_base.proofs.CallLaws.{early-good}
 use Rattle.monitor_base.proofs.LocatingLaws.{heap-there, stack-there}
 use Rattle.monitor_write_laws.specs.AreaCalls.{writtenRefusal}

@@ -12,7 +12,7 @@ use Rattle.shadows.specs.Shadows.{Shadows, lengthsFit}
 use Rattle.monitor_base.specs.Calls as plainForm
 use Rattle.monitor_base.specs.declared.Ending.{Ending}
 use Rattle.monitor_base.specs.declared.Ending.the-variants.{Block, Settled}
-use Rattle.monitor_base.specs.declared.Located.the-variants.{Heap}
+use Rattle.map.specs.declared.Located.the-variants.{Heap}
 use Rattle.monitor_write_laws.specs.Checks.{freedBy, Freeable}
 use Rattle.cells_layout.specs.Cells.{Cells, cellsFit}
 use Rattle.origins_list.specs.Call.{plain}

@@ -13,7 +13,7 @@ use Rattle.stack_layout.specs.Ops.{StackShadows}
 use Rattle.monitor_base.specs.Calls as plainForm
 use Rattle.monitor_base.specs.declared.Ending.{Ending}
 use Rattle.monitor_base.specs.declared.Ending.the-variants.{Block, Settled}
-use Rattle.monitor_base.specs.declared.Located.the-variants.{Stack}
+use Rattle.map.specs.declared.Located.the-variants.{Stack}
 use Rattle.monitor_write_laws.specs.Checks.{removedBy, Removable}
 use Rattle.cells_layout.specs.Cells.{Cells, cellsFit}
 use Rattle.origins_list.specs.Call.{plain}

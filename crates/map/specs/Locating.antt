@@ -1,11 +1,11 @@
 -- Where an address lies. Assumes nothing.
 use mathlib.Core.Path.{_≡_}
 use Prim.Native.Nat.{ℕ, _-_}
 use Rattle.map.specs.declared.Map.{Map}
 use Rattle.map.specs.declared.Area.the-variants as area
 use Rattle.map.specs.Map.{areaOf}
-use Rattle.monitor_base.specs.declared.Located.{Located}
-use Rattle.monitor_base.specs.declared.Located.the-variants.{Heap, Stack, Outside}
+use Rattle.map.specs.declared.Located.{Located}
+use Rattle.map.specs.declared.Located.the-variants.{Heap, Stack, Outside}
 
 -- the address lies there
 abbrev pub Lies : Map → ℕ → Located → Type 0
