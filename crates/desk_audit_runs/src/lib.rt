@@ -2,7 +2,6 @@
 ghost use mathlib.Core.Path.{_≡_};
 ghost use Prim.Native.Nat.{_+_, _*_, _/_, _%_, _^_, _≤_, _<_};
 ghost use lib.ListN.{length};
-ghost use Rattle.number.specs.Little.{word};
 ghost use Rattle.number.specs.Parts.{at};
 ghost use Rattle.heap_audit_laws.specs.Turn.{Kept};
 ghost use Rattle.heap_audit_laws.specs.Runs.{Owned, Passed};
@@ -11,8 +10,8 @@ use heap_audit_laws::Walk;
 use number_runs::zero_32;
 use number_words::eight_at;
 
-// The written bytes of n whole segments of a block from segment t on, the first at offset d; more than any heap has where one is not such a
-// segment. One pass with no early way out, which runs at memory speed.
+// The written bytes of n whole segments of a block from segment t on, the first at offset d; more than any heap has where that is not told.
+// One pass with no early way out, which runs at memory speed.
 fn ones(heap: &[u8], t: usize, n: usize, d: u32) -> u32
     requires { ⌜ ((t + n) * 16 ≤ length (now heap)) × (length (now heap) ≤ 131072) × (d ≤ 131072) ⌝ }
     ensures { λ r. ⌜ (r ≤ 131072 → Owned 8 16 (at (now (heap .entry))) t d n r) ⌝ }
@@ -37,7 +36,7 @@ fn ones(heap: &[u8], t: usize, n: usize, d: u32) -> u32
     written as u32
 }
 
-// The walk past the whole segments of a block that begins, but for its last, if they are its own. Once in a block: where one is not, the turns
+// The walk past the whole segments of a block that begins, but for its last, which the turn takes, if they are its own. Once in a block: where one is not, the turns
 // come to it, and to look again at each would take the square of the block's length.
 fn whole(heap: &[u8], s: usize, w: Walk) -> Ahead
     requires { ⌜ (w .len ≡ 0 → ⊥) × (s < length (now heap) / 16) × (length (now heap) % 16 ≡ 0) × (length (now heap) ≤ 131072) × Kept 16 (length (now heap)) s w ⌝ }
@@ -64,7 +63,7 @@ fn whole(heap: &[u8], s: usize, w: Walk) -> Ahead
     }
 }
 
-// The walk past free segments, two at a time, but for the area's last.
+// The walk past free segments, two at a time, but for the area's last, which the turn takes.
 fn free(heap: &[u8], s: usize, w: Walk) -> Ahead
     requires { ⌜ (w .len ≡ 0) × (s < length (now heap) / 16) × (length (now heap) ≤ 131072) × Kept 16 (length (now heap)) s w ⌝ }
     ensures { λ r. ⌜ Passed 8 16 (now (heap .entry)) s w (r .s) (r .w) ⌝ }

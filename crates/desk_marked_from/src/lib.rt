@@ -8,7 +8,7 @@ ghost use Rattle.plain.specs.Ops.{rangeMarked};
 ghost use Rattle.heap_layout.specs.Ops.{heapOps};
 ghost use Rattle.heap_layout.specs.Reading.{bitsPlace};
 
-// Whether four halves are marked: those of at and of the half after it have their bytes so far on.
+// Whether four halves are marked: own is how far on the byte of the half at at lies, next that of the half after it.
 fn four_marked(heap: &[u8], at: usize, own: usize, next: usize) -> bool
     requires { ⌜ (at % 8 ≡ 0) × (at + 32 ≤ length (now heap)) × (length (now heap) % 16 ≡ 0) × (length (now heap) ≤ 131072) ⌝ }
     requires { ⌜ (at + own ≡ bitsPlace 8 16 at) × (at + next ≡ bitsPlace 8 16 (at + 8)) ⌝ }

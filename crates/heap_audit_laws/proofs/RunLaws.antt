@@ -1,11 +1,10 @@
 -- Segments that the audit's walk passes at once, at numbers of W bytes and segments of two numbers. Assumes nothing.
 use mathlib.Core.Path.{_≡_, refl, sym, ap, _∙_}
-use mathlib.Core.Bool.{true, _&&_}
+use mathlib.Core.Bool.{true}
 use mathlib.Core.List.{List}
 use Prim.Native.Nat.{ℕ, zero, suc, _+_, _*_, _/_, _%_, _^_, _≤_, _<_}
 use native.Mathlib.Omega.{arith}
-use native.Mathlib.Nat.{add-zero, add-suc, add-assoc, zero-mul, div-add-mod', lt-of-mul-lt-mul-right}
-use native.Mathlib.Numerals.{add-one}
+use native.Mathlib.Nat.{add-zero, zero-mul, div-add-mod', lt-of-mul-lt-mul-right}
 use lib.ListN.{length}
 use lib.Count as count
 use lib.Dec.{eqb}
@@ -19,7 +18,7 @@ use Rattle.number.proofs.WordLaws.{word-split}
 use Rattle.number.proofs.ZeroLaws.{zero-word, zeros-next}
 use Rattle.heap_audit_laws.specs.declared.Walk.{Walk}
 use Rattle.heap_audit_laws.specs.declared.Moved.the-variants.{On}
-use Rattle.heap_audit_laws.specs.Turn.{rest, Kept, Stands, Turned}
+use Rattle.heap_audit_laws.specs.Turn.{Kept, Stands, Turned}
 use Rattle.heap_audit_laws.specs.Runs.{Owned, Passed}
 use Rattle.heap_audit_laws.proofs.BitsLaws.{pow-bytes}
 use Rattle.heap_audit_laws.proofs.TurnLaws.{turn-free, turn-whole}

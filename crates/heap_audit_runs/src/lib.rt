@@ -12,15 +12,15 @@ use number_runs::zero_32;
 use number_words::eight_at;
 
 // What the eight bytes at a place have above a segment's number: its written bits alone, if they are such a segment.
-fn above(heap: &[u8], p: usize, number: u64) -> u64
+fn over_number(heap: &[u8], p: usize, number: u64) -> u64
     requires { ⌜ p + 8 ≤ length (now heap) ⌝ }
     ensures { λ r. ⌜ (r + number) % 2 ^ 64 ≡ word (at (now (heap .entry))) p 8 ⌝ }
 {
     std::num::wrapping_sub_u64(eight_at(heap, p), number)
 }
 
-// The written bytes of n whole segments of a block from segment t on, the first at offset d; more than any heap has where one is not such a
-// segment. One pass with no early way out, which runs at memory speed.
+// The written bytes of n whole segments of a block from segment t on, the first at offset d; more than any heap has where that is not told.
+// One pass with no early way out, which runs at memory speed.
 fn ones(heap: &[u8], t: usize, n: usize, d: u32) -> u32
     requires { ⌜ ((t + n) * 8 ≤ length (now heap)) × (length (now heap) ≤ 131072) × (d ≤ 131072) ⌝ }
     ensures { λ r. ⌜ (r ≤ 131072 → Owned 4 8 (at (now (heap .entry))) t d n r) ⌝ }
@@ -30,7 +30,7 @@ fn ones(heap: &[u8], t: usize, n: usize, d: u32) -> u32
     let mut written: u64 = 0;
     let mut j: usize = 0;
     while j < n {
-        let bits = above(heap, (t + j) * 8, number);
+        let bits = over_number(heap, (t + j) * 8, number);
         over = over | bits;
         written += u64::count_ones(bits) as u64;
         number += 8;
@@ -42,7 +42,7 @@ fn ones(heap: &[u8], t: usize, n: usize, d: u32) -> u32
     written as u32
 }
 
-// The walk past the whole segments of a block that begins, but for its last, if they are its own. Once in a block: where one is not, the turns
+// The walk past the whole segments of a block that begins, but for its last, which the turn takes, if they are its own. Once in a block: where one is not, the turns
 // come to it, and to look again at each would take the square of the block's length.
 fn whole(heap: &[u8], s: usize, w: Walk) -> Ahead
     requires { ⌜ (w .len ≡ 0 → ⊥) × (s < length (now heap) / 8) × (length (now heap) % 8 ≡ 0) × (length (now heap) ≤ 131072) × Kept 8 (length (now heap)) s w ⌝ }
@@ -69,7 +69,7 @@ fn whole(heap: &[u8], s: usize, w: Walk) -> Ahead
     }
 }
 
-// The walk past free segments, four at a time, but for the area's last.
+// The walk past free segments, four at a time, but for the area's last, which the turn takes.
 fn free(heap: &[u8], s: usize, w: Walk) -> Ahead
     requires { ⌜ (w .len ≡ 0) × (s < length (now heap) / 8) × (length (now heap) ≤ 131072) × Kept 8 (length (now heap)) s w ⌝ }
     ensures { λ r. ⌜ Passed 4 8 (now (heap .entry)) s w (r .s) (r .w) ⌝ }

@@ -59,8 +59,8 @@ impl Form {
     }
 }
 
-// The position of an address in the shadow of the area that begins at start, if it lies there. Of one below the start the difference wraps in
-// 64 bits, to above all sizes, so that one comparison tells.
+// The position of an address in the shadow of the area that begins at start. Of an address below it the difference wraps in 64 bits, to what is
+// no position but above all sizes: so one comparison tells whether the address lies in the area.
 pub fn to_position(a: Address, start: Address) -> Position
     ensures { λ r. ⌜ (start .0 ≤ a .0 → r .0 ≡ a .0 - start .0) × (a .0 < start .0 → 4294967296 ≤ r .0) ⌝ }
 {
@@ -85,7 +85,7 @@ fn in_segments(form: Form, h: u64, n: u64) -> bool
     }
 }
 
-// Whether an area that does not begin at 0 ends at or below another's start: one below 0 wraps to above all starts.
+// Whether an area does not begin at 0 and ends at or below another's start: of 0 the number below wraps, to above all starts.
 fn below(start: u32, size: u64, other: u64) -> bool
     requires { ⌜ (size < 4294967296) × (other < 4294967296) ⌝ }
     ensures { λ r. ⌜ r ≡ (leb 1 start && leb (start + size) other) ⌝ }
@@ -94,7 +94,7 @@ fn below(start: u32, size: u64, other: u64) -> bool
 }
 
 impl Map {
-    // The sums are taken in 64 bits, where they cannot wrap. Of two areas that lie apart the lower has its end below the other's start: only that
+    // The sums are taken in 64 bits, where they cannot wrap. Of two areas that lie apart the lower ends at or below the other's start: only that
     // it does not begin at 0 is left to ask, and of the upper only where it ends.
     pub fn good(self, form: Form) -> bool
         ensures { λ r. ⌜ r ≡ goodMap (under form self) ⌝ }

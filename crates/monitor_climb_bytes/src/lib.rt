@@ -1,6 +1,5 @@
 // Free bytes of the stack passed at once by the search for the next block.
 use map::Position;
-ghost use mathlib.Core.Path.{_≡_};
 ghost use Prim.Native.Nat.{_≤_, _<_};
 ghost use lib.ListN.{length};
 ghost use Rattle.number.specs.Parts.{at};

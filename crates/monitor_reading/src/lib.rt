@@ -33,7 +33,7 @@ fn desk(heap: &[u8], primary: &[u8], secondary: &[u8], l: Located) -> Reading
     }
 }
 
-// The form is asked for first: a choice inside the heap's arm would keep the compiler from telling readings apart where they are taken.
+// The form is asked for first: in a library it is a constant, and one of the two functions is left.
 pub fn reading(form: Form, heap: &[u8], primary: &[u8], secondary: &[u8], l: Located) -> Reading
     requires { ⌜ There (segmentSize form) l (now heap) (now primary) (now secondary) ⌝ }
     ensures { λ r. ⌜ readingOf r ≡ readingAt (numberSize form) (segmentSize form) l (now (heap .entry)) (now (primary .entry)) (now (secondary .entry)) ⌝ }

@@ -79,7 +79,7 @@ pub fn check(
         ),
         Located::Stack(p) => {
             // A whole block of four or eight bytes needs no reading.
-            if stack_whole::plain(primary, p, n) {
+            if stack_whole::writable(primary, p, n) {
                 return Checked {
                     number: 0,
                     place: Located::Stack(p),

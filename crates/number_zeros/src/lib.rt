@@ -17,26 +17,13 @@ pub fn all_zero(s: &[u8]) -> bool
     seen == 0
 }
 
-fn part_zero(s: &[u8], a: usize, n: usize) -> bool
+// Whether the n bytes from a on are zero.
+pub fn zero_at(s: &[u8], a: usize, n: usize) -> bool
     requires { ⌜ a + n ≤ length (now s) ⌝ }
     ensures { λ r. ⌜ r ≡ zeros (at (now (s .entry))) a n ⌝ }
 {
     let e = a + n;
     all_zero(&s[a..e])
-}
-
-// Whether the n bytes from a on are zero; the commonest lengths are one load and two.
-pub fn zero_at(s: &[u8], a: usize, n: usize) -> bool
-    requires { ⌜ a + n ≤ length (now s) ⌝ }
-    ensures { λ r. ⌜ r ≡ zeros (at (now (s .entry))) a n ⌝ }
-{
-    if n == 4 {
-        return number_words::number_at(s, a) == 0;
-    }
-    if n == 8 {
-        return (number_words::number_at(s, a) == 0) & (number_words::number_at(s, a + 4) == 0);
-    }
-    part_zero(s, a, n)
 }
 
 // Zeros in a whole slice.

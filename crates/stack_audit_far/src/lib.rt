@@ -19,7 +19,7 @@ fn piece_bytes(literal: bool) -> u64
     }
 }
 
-// How many of the n bytes at q are written, if they are whole pieces of a long block from its byte i on, and 249 if not. One pass with no early
+// How many of the n bytes at q are written, if they are whole pieces of a long block from its byte i on; 249 where that is not told. One pass with no early
 // way out, which runs at memory speed; modulo 255 the sum of the written bits is their number.
 fn stretch(
     primary: &[u8],
@@ -55,7 +55,7 @@ fn stretch(
     (sum % 255) as u32
 }
 
-// How many of the bytes that are left one stretch takes.
+// How many of the bytes that are left one stretch takes: 31 pieces at most, so that their written bits stay below 255.
 fn taken(left: usize) -> usize
     requires { ⌜ 8 ≤ left ⌝ }
     ensures { λ r. ⌜ (8 ≤ r) × (r ≤ left) × (r ≤ 248) × (r % 8 ≡ 0) ⌝ }

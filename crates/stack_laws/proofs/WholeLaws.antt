@@ -22,7 +22,7 @@ use Rattle.stack_layout.specs.Ops.{withWritten, stackOps}
 use Rattle.stack_layout.specs.Reading.{fitted, codeReading, stackReading}
 use Rattle.stack_layout.proofs.TableLaws.{Encoded, encoded}
 use Rattle.stack_layout.proofs.CodeLaws.{code-lt, Apart, primary-apart}
-use Rattle.stack_laws.specs.Whole.{wholeWritten, wholePlain, wholeFrom, wholeLength}
+use Rattle.stack_laws.specs.Whole.{wholeWritten, wholeWritable, wholeFrom, wholeLength}
 use Rattle.stack_laws.proofs.MarkLaws.{written-bytes, word-written, marked-each}
 
 -- ---- the constants of the code
@@ -86,12 +86,12 @@ module _ (size : ℕ) (f : ℕ → ℕ) (p n : ℕ) where
 -- the same with the written bits set first, by a mask m
 module _ (size : ℕ) (f : ℕ → ℕ) (bytes : AllBytes f) (p n : ℕ) where
   pub plain-of : (k v m w : ℕ) → (eqb k 4 || eqb k 8) ≡ true → (eqb n k && leb (p + k) size) ≡ true → v ≡ word f p k → m ≡ word (λ i. 1) 0 k
-      → w ≡ word (λ i. primaryOf k i 1) 0 k → eqb (bitOr v m) w ≡ wholePlain size f p n
-  unfolding wholePlain
+      → w ≡ word (λ i. primaryOf k i 1) 0 k → eqb (bitOr v m) w ≡ wholeWritable size f p n
+  unfolding wholeWritable
   plain-of k v m w o e a c b = whole-of size (λ q. withWritten (f q)) p n k (bitOr v m) w o e (rw (a, c) (word-written f bytes k p 0)) b
 
-  pub plain-none : (eqb n 4 && leb (p + 4) size) ≡ false → (eqb n 8 && leb (p + 8) size) ≡ false → wholePlain size f p n ≡ false
-  unfolding wholePlain
+  pub plain-none : (eqb n 4 && leb (p + 4) size) ≡ false → (eqb n 8 && leb (p + 8) size) ≡ false → wholeWritable size f p n ≡ false
+  unfolding wholeWritable
   plain-none = whole-none size (λ q. withWritten (f q)) p n
 
 -- ---- what is read
@@ -179,8 +179,8 @@ whole-bytes size f b p n e =
         go (is-false x) (is-false y) = absurd (not-both (eqb n 4 || eqb n 8) w (rw (x, y)))
 
 -- a whole block that is no literal, written or not
-pub plain-read : (size : ℕ) (f se : ℕ → ℕ) → AllBytes f → (p n : ℕ) → wholePlain size f p n ≡ true → stackReading size f se p ≡ block p n 0 (f p % 2) false
-unfolding wholePlain primaryOf
+pub plain-read : (size : ℕ) (f se : ℕ → ℕ) → AllBytes f → (p n : ℕ) → wholeWritable size f p n ≡ true → stackReading size f se p ≡ block p n 0 (f p % 2) false
+unfolding wholeWritable primaryOf
 plain-read size f se b p n e =
     let W = whole-bytes size (λ q. withWritten (f q)) (written-bytes f b) p n e in
     let x : withWritten (f p) ≡ primaryOf n 0 1 = rw (add-zero p) at (W .byte 0 (omega (arith, W .some))) in

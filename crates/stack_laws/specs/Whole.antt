@@ -11,8 +11,8 @@ unfoldable pub wholeWritten : (size : ℕ) → (f : ℕ → ℕ) → (p n : ℕ)
 wholeWritten size f p n = (eqb n 4 || eqb n 8) && leb (p + n) size && eqb (word f p n) (word (λ i. primaryOf n i 1) 0 n)
 
 -- the same with the written bits set first, whatever is written
-unfoldable pub wholePlain : (size : ℕ) → (f : ℕ → ℕ) → (p n : ℕ) → Bool
-wholePlain size f p n = wholeWritten size (λ q. withWritten (f q)) p n
+unfoldable pub wholeWritable : (size : ℕ) → (f : ℕ → ℕ) → (p n : ℕ) → Bool
+wholeWritable size f p n = wholeWritten size (λ q. withWritten (f q)) p n
 
 -- the byte at p has the code of the first byte of a block of n bytes, which fits the area
 unfoldable pub wholeFrom : (size : ℕ) → (f : ℕ → ℕ) → (p n : ℕ) → Bool

@@ -22,7 +22,7 @@ pub fn fit(size: usize, p: Position, len: u32, i: u32, bits: u8) -> Reading
     Reading::Block(Position(at - offset), len, i, bits)
 }
 
-// Length len and piece offset o cannot stand in a piece that has a byte j. Where a difference wraps, a test before it has failed.
+// Length len and piece offset o cannot stand in a piece that has a byte j. Where a difference wraps, an earlier test has found it bad.
 pub fn bad_piece(len: u32, o: u32, j: u32) -> bool
     requires { ⌜ j < 15 ⌝ }
     ensures { λ r. ⌜ r ≡ badPiece len o j ⌝ }

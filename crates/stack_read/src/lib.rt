@@ -16,8 +16,8 @@ struct Spot {
     i: u32,
 }
 
-// No area holds a block of this length: it stands for damage.
-fn none() -> Spot
+// Damage, as a length that fits in no area.
+fn damage() -> Spot
     ensures { λ r. ⌜ (r .len ≡ 4294967295) × (r .i ≡ 0) ⌝ }
 {
     Spot {
@@ -36,17 +36,17 @@ fn told_long(secondary: &[u8], p: Position, j: u32) -> Spot
     let Position(q) = p;
     let t = std::num::wrapping_sub_u32(q as u32, j) as usize;
     if secondary.len() < t + 8 {
-        return none();
+        return damage();
     }
     let len = number_words::number_at(secondary, t);
     let o = number_words::number_at(secondary, t + 4);
     if stack_piece::bad_piece(len, o, j) {
-        return none();
+        return damage();
     }
     Spot { len, i: o + j }
 }
 
-// Position p has this code, and low bits of which one is set where the code is 0.
+// What a code tells of position p; of code 0 only where a low bit is set, which is damage.
 fn told(secondary: &[u8], p: Position, code: u8) -> Spot
     requires { ⌜ (p .0 < length (now secondary)) × (length (now secondary) ≤ 65536) ⌝ }
     ensures { λ r. ⌜ ((m : ℕ) → (code ≡ 0 → m ≡ 0 → ⊥) → fitted (length (now (secondary .entry))) (p .0) (r .len) (r .i) m
@@ -54,7 +54,7 @@ fn told(secondary: &[u8], p: Position, code: u8) -> Spot
 {
     if code < 48 {
         if (code == 0) | (36 < code) {
-            return none();
+            return damage();
         }
         let i = short_offset(code);
         return Spot {
@@ -63,7 +63,7 @@ fn told(secondary: &[u8], p: Position, code: u8) -> Spot
         };
     }
     if 62 < code {
-        return none();
+        return damage();
     }
     told_long(secondary, p, number_words::wide(code) - 48)
 }

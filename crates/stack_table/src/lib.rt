@@ -17,7 +17,7 @@ pub fn short_offset(code: u8) -> u32
     u64::leading_zeros(FIRST << (63 - code))
 }
 
-// The bytes from that of a code to its block's last.
+// How many bytes of its block come after that of a code.
 pub fn short_after(code: u8) -> u32
     requires { ⌜ (1 ≤ code) × (code < 37) ⌝ }
     ensures { λ r. ⌜ shortOffset code + r + 1 ≡ shortLength code ⌝ }

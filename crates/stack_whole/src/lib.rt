@@ -6,7 +6,7 @@ ghost use Prim.Native.Nat.{_+_, _<_, _≤_};
 ghost use lib.Dec.{leb, eqb};
 ghost use lib.ListN.{length};
 ghost use Rattle.number.specs.Parts.{at};
-ghost use Rattle.stack_laws.specs.Whole.{wholeWritten, wholePlain};
+ghost use Rattle.stack_laws.specs.Whole.{wholeWritten, wholeWritable};
 
 // The primary bytes of a written block of four bytes as one number, and of eight.
 const WRITTEN_4: u32 = 0x2925211d;
@@ -26,7 +26,7 @@ fn is_there(primary: &[u8], q: usize, n: u32, k: u32) -> bool
     (n == k) & (q + (k as usize) <= primary.len())
 }
 
-// Whether the n bytes from p on are a whole block, each written, and no literal. Where they are not, nothing is said of them.
+// Whether n is 4 or 8 and the n bytes from p on are a whole block, each written, and no literal.
 pub fn written(primary: &[u8], p: Position, n: u32) -> bool
     requires { ⌜ (p .0 < length (now primary)) × (length (now primary) ≤ 65536) ⌝ }
     ensures { λ r. ⌜ r ≡ wholeWritten (length (now (primary .entry))) (at (now (primary .entry))) (p .0) n ⌝ }
@@ -41,10 +41,10 @@ pub fn written(primary: &[u8], p: Position, n: u32) -> bool
     false
 }
 
-// Whether they are a whole block that is no literal, whatever is written.
-pub fn plain(primary: &[u8], p: Position, n: u32) -> bool
+// The same, whatever is written.
+pub fn writable(primary: &[u8], p: Position, n: u32) -> bool
     requires { ⌜ (p .0 < length (now primary)) × (length (now primary) ≤ 65536) ⌝ }
-    ensures { λ r. ⌜ r ≡ wholePlain (length (now (primary .entry))) (at (now (primary .entry))) (p .0) n ⌝ }
+    ensures { λ r. ⌜ r ≡ wholeWritable (length (now (primary .entry))) (at (now (primary .entry))) (p .0) n ⌝ }
 {
     let Position(q) = p;
     if is_there(primary, q, n, 4) {

@@ -7,7 +7,6 @@ use native.Mathlib.Numerals.{add-one}
 use denote.Ref.{now}
 use lib.Bits.{bitOr}
 use lib.Count.{ones, ones-le}
-use lib.ListN.{length}
 use lib.Dec.{eqb}
 use borrow.Author.Needs.{needs}
 use borrow.Author.Tests.{not-false, eqb-true}
@@ -32,17 +31,17 @@ add-number c = search needs
 loop-holds : tie.Need-loop-holds Inv-loop μ-loop
 loop-holds c = (omega arith, omega arith, omega arith, λ a b. refl)
 
-add-above : tie.Need-add-above Inv-loop μ-loop
-add-above c = search needs
+add-over-number : tie.Need-add-over-number Inv-loop μ-loop
+add-over-number c = search needs
 
-mul-above : tie.Need-mul-above Inv-loop μ-loop
-mul-above c = search needs
+mul-over-number : tie.Need-mul-over-number Inv-loop μ-loop
+mul-over-number c = search needs
 
-above-requires : tie.Need-above-requires Inv-loop μ-loop
-above-requires c κs = search needs
+over-number-requires : tie.Need-over-number-requires Inv-loop μ-loop
+over-number-requires c κs = search needs
 
-few : (c : tie.After-above Inv-loop μ-loop) → ones (c .above .result) ≤ 64
-few c = ones-le 64 (c .above .result) (omega (arith, c .above .ok))
+few : (c : tie.After-over-number Inv-loop μ-loop) → ones (c .over-number .result) ≤ 64
+few c = ones-le 64 (c .over-number .result) (omega (arith, c .over-number .ok))
 
 cast-written : tie.Need-cast-written Inv-loop μ-loop
 cast-written c = omega (arith, few c)
@@ -65,14 +64,14 @@ loop-again c =
     let f = l .before in
     let a = f .before .args in
     let i = l .loop .inv in
-    let own : bitOr (l .loop .over) (c .above .result) % 2 ^ 32 ≡ 0 → bitOr (l .loop .over) (c .above .result) / 2 ^ 40 ≡ 0
-    → Owned 4 8 (at (now (a .heap))) (a .t) (a .d) (l .loop .j + 1) (l .loop .written + ones (c .above .result)) =
+    let own : bitOr (l .loop .over) (c .over-number .result) % 2 ^ 32 ≡ 0 → bitOr (l .loop .over) (c .over-number .result) / 2 ^ 40 ≡ 0
+    → Owned 4 8 (at (now (a .heap))) (a .t) (a .d) (l .loop .j + 1) (l .loop .written + ones (c .over-number .result)) =
     λ x y.
-    let u = or-low 32 (l .loop .over) (c .above .result) x in
-    let v = or-high 40 (l .loop .over) (c .above .result) y in
+    let u = or-low 32 (l .loop .over) (c .over-number .result) x in
+    let v = or-high 40 (l .loop .over) (c .over-number .result) y in
     rw (add-one (l .loop .j))
     (owned-more 4 8 refl (at (now (a .heap))) (λ q. f .shared-slice-known .given q .fits) (a .t) (a .d) (l .loop .j) (l .loop .written) (l .loop .number)
-    (c .above .result) (i .3 (u .0) (v .0)) (i .1) (omega arith) (sym (c .above .ensures) ∙ omega arith) (u .1) (omega arith)) in
+    (c .over-number .result) (i .3 (u .0) (v .0)) (i .1) (omega arith) (sym (c .over-number .ensures) ∙ omega arith) (u .1) (omega arith)) in
     (omega arith, omega arith, omega (arith, few c), own)
 
 returns : tie.Need-returns Inv-loop μ-loop
@@ -99,9 +98,9 @@ ones-spec =
     μ-loop
     add-number
     loop-holds
-    add-above
-    mul-above
-    above-requires
+    add-over-number
+    mul-over-number
+    over-number-requires
     cast-written
     add-written
     add-number-2

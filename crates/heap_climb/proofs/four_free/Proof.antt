@@ -1,6 +1,5 @@
 -- `heap_climb::four_free` meets its contract: an or is 0 exactly if each number is. Assumes nothing.
 use native.Mathlib.Nat.{add-zero}
-use denote.Ref.{now}
 use Rattle.number.proofs.BitLaws.{or-none}
 use Rattle.heap_laws.specs.Climb.{freeRun}
 use borrow.Author.Needs.{needs}

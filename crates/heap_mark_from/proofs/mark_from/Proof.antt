@@ -1,5 +1,5 @@
 -- `heap_mark_from::mark_from` meets its contract: what is left to mark makes of the shadow what the whole range makes of it. Assumes nothing.
-use mathlib.Core.Path.{_≡_, refl, sym, ap, _∙_}
+use mathlib.Core.Path.{_≡_, refl, sym, _∙_}
 use mathlib.Core.List.{List}
 use Prim.Native.Nat.{ℕ, _≤_, _-_, _+_, _%_}
 use native.Mathlib.Omega.{arith}

@@ -1,5 +1,5 @@
 -- `heap_mark_from::mark_rest` meets its contract: a segment and part of the next, or part of one, or nothing. Assumes nothing.
-use mathlib.Core.Path.{_≡_, sym, _∙_}
+use mathlib.Core.Path.{sym, _∙_}
 use Prim.Native.Nat.{_+_, _-_}
 use native.Mathlib.Omega.{arith}
 use denote.Ref.{now}

@@ -99,8 +99,8 @@ there c =
     let h = in-stack c in
     stack-there (under (e .args .form) (e .args .map)) (shadows e) (g .0) (g .1) (e .args .a .0) _ (h .0) (h .1)
 
-plain-requires : tie.Need-plain-requires
-plain-requires c κs = let t = there (c .before) in (t .0, t .2)
+writable-requires : tie.Need-writable-requires
+writable-requires c κs = let t = there (c .before) in (t .0, t .2)
 
 -- n bytes that are a whole block, which is no literal
 whole-passed : (n p w : ℕ) (r : Reading) → r ≡ block p n 0 w false → 0 ≡ writtenRefusal true n r
@@ -115,7 +115,7 @@ returns-3 c =
     let g = good-fit (l .before .before) in
     let h = in-stack p in
     let b = l .before .before .before .before .before .shared-slice-known2 .given in
-    let r = plain-read _ (at (now (e .args .primary))) (at (now (e .args .secondary))) (λ q. b q .fits) (p .p2 .given .0 .0 .0) (e .args .n) (sym (x .plain .ensures) ∙ c .if3 .taken) in
+    let r = plain-read _ (at (now (e .args .primary))) (at (now (e .args .secondary))) (λ q. b q .fits) (p .p2 .given .0 .0 .0) (e .args .n) (sym (x .writable .ensures) ∙ c .if3 .taken) in
     area-found (under (e .args .form) (e .args .map)) (shadows e) (e .args .a .0) (e .args .n) 0
     (whole-passed (e .args .n) _ _ _ r ∙ written-stack (under (e .args .form) (e .args .map)) (shadows e) (e .args .a .0) (e .args .n) (g .0) (g .1) (l .before .if2 .left) _ (h .0) (h .1))
     (Stack _) h 0 refl (Stack _) (λ z. refl) (λ n. absurd (n refl))
@@ -176,7 +176,7 @@ check-spec =
     refused-requires
     in-area-requires
     enum-known-p-2
-    plain-requires
+    writable-requires
     returns-3
     read-requires-2
     refused-requires-2

@@ -1,5 +1,5 @@
 -- `stack_read::read` meets its contract: the code by shift, the two low bits by mask. Assumes nothing.
-use mathlib.Core.Path.{_≡_, sym, _∙_}
+use mathlib.Core.Path.{_≡_}
 use Prim.Native.Nat.{_%_}
 use native.Mathlib.Omega.{arith}
 use denote.Ref.{now}

@@ -6,19 +6,19 @@ use denote.Ref.{now}
 use lib.ListN.{length}
 use borrow.Author.Needs.{needs}
 use Rattle.number.specs.Parts.{at}
-use Rattle.stack_layout.specs.Code.{shortLength, shortOffset}
+use Rattle.stack_layout.specs.Code.{shortLength}
 use Rattle.stack_laws.proofs.ReadLaws.{no-length, code-none, code-table, code-short, code-long, code-above}
 use Rattle.stack_laws.proofs.TableLaws.{length-told}
 use Rattle.stack_read.proofs.told.Statement.{statement}
 use Rattle.stack_read.proofs.told.Tie as tie
 
-none-requires : tie.Need-none-requires
-none-requires c κs = search needs
+damage-requires : tie.Need-damage-requires
+damage-requires c κs = search needs
 
 returns : tie.Need-returns
 returns c m f =
     let s = c .before .before .before .before in
-    rw (c .none .ensures .0, c .none .ensures .1)
+    rw (c .damage .ensures .0, c .damage .ensures .1)
     (no-length (length (now (s .args .secondary))) (s .args .p .0) m (s .pre .1)
     ∙ sym (code-none _ (at (now (s .args .secondary))) (s .args .p .0) (s .args .code) m (c .before .if2 .taken) (omega arith) f))
 
@@ -52,13 +52,13 @@ returns-2 c m f =
     rw (whole c, c .before .short-offset .ensures)
     (sym (code-short _ (at (now (s .args .secondary))) (s .args .p .0) (s .args .code) m (c .before .before .if2 .left)))
 
-none-requires-2 : tie.Need-none-requires-2
-none-requires-2 c κs = search needs
+damage-requires-2 : tie.Need-damage-requires-2
+damage-requires-2 c κs = search needs
 
 returns-3 : tie.Need-returns-3
 returns-3 c m f =
     let s = c .before .before .before .before in
-    rw (c .none2 .ensures .0, c .none2 .ensures .1)
+    rw (c .damage2 .ensures .0, c .damage2 .ensures .1)
     (no-length (length (now (s .args .secondary))) (s .args .p .0) m (s .pre .1)
     ∙ sym (code-above _ (at (now (s .args .secondary))) (s .args .p .0) (s .args .code) m (omega arith)))
 
@@ -81,14 +81,14 @@ pub told-spec : {M : Type 1} → statement M
 told-spec =
     tie.close
     (tie.spec
-    none-requires
+    damage-requires
     returns
     short-offset-requires
     short-after-requires
     add-t10
     add-t11
     returns-2
-    none-requires-2
+    damage-requires-2
     returns-3
     wide-requires
     sub-told-long

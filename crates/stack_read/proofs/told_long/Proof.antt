@@ -1,7 +1,7 @@
 -- `stack_read::told_long` meets its contract. Assumes nothing.
 use mathlib.Core.Path.{_≡_, sym, _∙_}
 use mathlib.Core.Bool.{cond}
-use Prim.Native.Nat.{ℕ, _+_, _%_}
+use Prim.Native.Nat.{ℕ, _+_}
 use native.Mathlib.Omega.{arith}
 use denote.Ref.{now}
 use lib.ListN.{length}
@@ -25,14 +25,14 @@ cast-t c = search needs
 add-if1 : tie.Need-add-if1
 add-if1 c = search needs
 
-none-requires : tie.Need-none-requires
-none-requires c κs = search needs
+damage-requires : tie.Need-damage-requires
+damage-requires c κs = search needs
 
 returns : tie.Need-returns
 returns c m =
     let s = c .before .before .before .before in
     let w = c .before .before .wrapping-sub-u32 in
-    rw (c .none .ensures .0, c .none .ensures .1)
+    rw (c .damage .ensures .0, c .damage .ensures .1)
     (no-length (length (now (s .args .secondary))) (s .args .p .0) m (s .pre .1)
     ∙ sym (piece-outside _ (at (now (s .args .secondary))) (s .args .p .0) (s .args .j) (w .result) m (s .pre .0) (s .pre .1) (s .pre .2) (w .ensures) (omega arith) (omega arith)))
 
@@ -48,8 +48,8 @@ number-at-requires-2 c κs = search needs
 bad-piece-requires : tie.Need-bad-piece-requires
 bad-piece-requires c κs = search needs
 
-none-requires-2 : tie.Need-none-requires-2
-none-requires-2 c κs = search needs
+damage-requires-2 : tie.Need-damage-requires-2
+damage-requires-2 c κs = search needs
 
 -- the piece lies in the area: its two numbers are what the reading goes by
 read-piece : (c : tie.After-number-at2) (m : ℕ) → let s = c .before .before .before .before .before in
@@ -66,7 +66,7 @@ returns-2 : tie.Need-returns-2
 returns-2 c m =
     let d = c .before .before in
     let s = d .before .before .before .before .before .before in
-    rw (c .none2 .ensures .0, c .none2 .ensures .1)
+    rw (c .damage2 .ensures .0, c .damage2 .ensures .1)
     (no-length (length (now (s .args .secondary))) (s .args .p .0) m (s .pre .1)
     ∙ sym (read-piece (d .before) m ∙ rw (sym (d .bad-piece .ensures) ∙ c .before .if2 .taken)))
 
@@ -89,13 +89,13 @@ told-long-spec =
     wrapping-sub-u32-requires
     cast-t
     add-if1
-    none-requires
+    damage-requires
     returns
     number-at-requires
     add-number-at
     number-at-requires-2
     bad-piece-requires
-    none-requires-2
+    damage-requires-2
     returns-2
     add-t8
     returns-3)

@@ -1,13 +1,13 @@
 -- `map::Map::good` meets its contract: apart, one area lies below the other, in one of two orders. Assumes nothing.
-use mathlib.Core.Path.{_≡_, sym, _∙_}
-use mathlib.Core.Bool.{true, false}
+use mathlib.Core.Path.{_≡_, sym}
+use mathlib.Core.Bool.{true}
 use native.Mathlib.Omega.{arith}
 use borrow.Author.Needs.{needs}
 use borrow.Author.Tests.{not-true, not-false}
 use Rattle.number.proofs.TestLaws.{false-of, not-both}
 use Rattle.map.specs.Map.{goodMap}
 use Rattle.map.specs.FormMap.{under}
-use Rattle.map.proofs.MapLaws.{whole, lower, good-whole, heap-lower, stack-lower, none-lower}
+use Rattle.map.proofs.MapLaws.{whole, good-whole, heap-lower, stack-lower, none-lower}
 use Rattle.map.proofs.Map.good.Statement.{statement}
 use Rattle.map.proofs.Map.good.Tie as tie
 

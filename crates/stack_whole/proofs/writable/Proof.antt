@@ -1,4 +1,4 @@
--- `stack_whole::plain` meets its contract: the mask sets the written bit of each byte. Assumes nothing.
+-- `stack_whole::writable` meets its contract: the mask sets the written bit of each byte. Assumes nothing.
 use mathlib.Core.Path.{_≡_, refl, sym, _∙_}
 use mathlib.Core.Bool.{true, _&&_}
 use Prim.Native.Nat.{_+_}
@@ -9,8 +9,8 @@ use borrow.Author.Needs.{needs}
 use Rattle.number.specs.Parts.{at}
 use Rattle.number.proofs.WordLaws.{AllBytes}
 use Rattle.stack_laws.proofs.WholeLaws.{word-4, word-8, bits-4, bits-8, whole-fits, plain-of, plain-none}
-use Rattle.stack_whole.proofs.plain.Statement.{statement}
-use Rattle.stack_whole.proofs.plain.Tie as tie
+use Rattle.stack_whole.proofs.writable.Statement.{statement}
+use Rattle.stack_whole.proofs.writable.Tie as tie
 
 -- the function's entry, from where one length is tested
 abbrev entry : tie.After-is-there → tie.Start
@@ -57,8 +57,8 @@ returns-3 c =
     let a = entry s .args in
     sym (plain-none _ (at (now (a .primary))) (bytes s) (a .p .0) (a .n) (sym (s .is-there .ensures) ∙ c .before .before .if1 .left) (sym (c .before .is-there2 .ensures) ∙ c .if2 .left))
 
-pub plain-spec : {M : Type 1} → statement M
-plain-spec =
+pub writable-spec : {M : Type 1} → statement M
+writable-spec =
     tie.close
     (tie.spec
     is-there-requires
