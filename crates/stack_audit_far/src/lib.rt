@@ -19,8 +19,8 @@ fn piece_bytes(literal: bool) -> u64
     }
 }
 
-// How many of the n bytes at q are written, if they are whole pieces of a long block from its byte i on; 249 where that is not told. One pass with no early
-// way out, which runs at memory speed; modulo 255 the sum of the written bits is their number.
+// How many of the n bytes at q are written, if they are whole pieces of a long block from its byte i on; 249 where that is not told. One pass with
+// no early way out, which runs at memory speed; modulo 255 the sum of the written bits is their number.
 fn stretch(
     primary: &[u8],
     secondary: &[u8],
