@@ -21,14 +21,17 @@ word-split f q (suc a) b =
     let e : 256 ^ suc a * word f (q + suc a) b ≡ 256 * (256 ^ a * word f (q + suc a) b) = rw (pow-suc 256 a, mul-comm (256 ^ a) 256, mul-assoc) in
     rw (suc-add a b, word-split f (suc q) a b, suc-add q a, ← add-suc q a) (omega arith)
 
--- byte i of a word
-pub byteOf-word : (f : ℕ → ℕ) → AllBytes f → (w q i : ℕ) → i < w → byteOf (word f q w) i ≡ f (q + i)
+-- byte i of a word whose w bytes are bytes
+pub word-byte : (f : ℕ → ℕ) (w q i : ℕ) → ((j : ℕ) → j < w → f (q + j) < 256) → i < w → byteOf (word f q w) i ≡ f (q + i)
 unfolding byteOf word
-byteOf-word f b zero q i h = absurd (omega arith)
-byteOf-word f b (suc w) q zero h = rw add-zero (omega (arith, b q))
-byteOf-word f b (suc w) q (suc i) h =
-    let e : (f q + 256 * word f (suc q) w) / 256 ≡ word f (suc q) w = omega (arith, b q) in
-    rw (e, add-suc q i, ← suc-add q i) (byteOf-word f b w (suc q) i (omega arith))
+word-byte f zero q i b h = absurd (omega arith)
+word-byte f (suc w) q zero b h = rw add-zero (omega (arith, rw (add-zero q) at (b 0 (omega arith))))
+word-byte f (suc w) q (suc i) b h =
+    let e : (f q + 256 * word f (suc q) w) / 256 ≡ word f (suc q) w = omega (arith, rw (add-zero q) at (b 0 (omega arith))) in
+    rw (e, add-suc q i, ← suc-add q i) (word-byte f w (suc q) i (λ j k. rw (suc-add q j, ← add-suc q j) (b (suc j) (suc-le-suc k))) (omega arith))
+
+pub byteOf-word : (f : ℕ → ℕ) → AllBytes f → (w q i : ℕ) → i < w → byteOf (word f q w) i ≡ f (q + i)
+byteOf-word f b w q i h = word-byte f w q i (λ j k. b (q + j)) h
 
 -- a number that fits is the word of its bytes
 pub word-bytes : (w n : ℕ) → n < 256 ^ w → word (byteOf n) 0 w ≡ n

@@ -24,17 +24,16 @@ use Rattle.stack_layout.proofs.TableLaws.{Encoded, encoded}
 use Rattle.stack_layout.proofs.CodeLaws.{code-lt, Apart, primary-apart}
 use Rattle.stack_laws.specs.Whole.{wholeWritten, wholeWritable, wholeFrom, wholeLength}
 use Rattle.stack_laws.proofs.MarkLaws.{written-bytes, word-written, marked-each}
+use Rattle.stack_laws.proofs.WordLaws.{primary-four, primary-eight}
 
 -- ---- the constants of the code
 
 -- the written bytes of a block of four as one number, and of eight
 pub word-4 : word (λ i. primaryOf 4 i 1) 0 4 ≡ 690299165
-unfolding word primaryOf codeOf shortCode
-word-4 = refl
+word-4 = primary-four 1
 
 pub word-8 : word (λ i. primaryOf 8 i 1) 0 8 ≡ 10488190313711892853
-unfolding word primaryOf codeOf shortCode
-word-8 = refl
+word-8 = primary-eight 1
 
 -- their written bits
 pub bits-4 : word (λ i. 1) 0 4 ≡ 16843009

@@ -1,24 +1,16 @@
 -- Bytes of a block as one number: the words that the code has are those of the codes. Assumes nothing.
 use mathlib.Core.Path.{_≡_, _∙_}
 use mathlib.Core.List.{List}
-use Prim.Native.Nat.{ℕ, zero, suc, _+_, _-_, _*_, _/_, _≤_, _<_, suc-le-suc}
+use Prim.Native.Nat.{ℕ, _+_, _-_, _*_, _≤_, _<_}
 use native.Mathlib.Omega.{arith}
-use native.Mathlib.Nat.{add-zero, zero-add, add-suc, suc-add}
+use native.Mathlib.Nat.{zero-add}
 use borrow.Author.Tests.{le-leb}
 use Rattle.number.specs.Little.{byteOf, word}
 use Rattle.number.specs.Parts.{over}
 use Rattle.number.proofs.PartLaws.{over-ext}
+use Rattle.number.proofs.WordLaws.{word-byte}
 use Rattle.stack_layout.specs.Code.{shortCode, codeOf, primaryOf}
 use Rattle.stack_laws.proofs.CodeLaws.{short-small}
-
--- byte i of a word whose w bytes are bytes
-pub word-byte : (f : ℕ → ℕ) (w q i : ℕ) → ((j : ℕ) → j < w → f (q + j) < 256) → i < w → byteOf (word f q w) i ≡ f (q + i)
-unfolding byteOf word
-word-byte f zero q i b h = absurd (omega arith)
-word-byte f (suc w) q zero b h = rw add-zero (omega (arith, rw (add-zero q) at (b 0 (omega arith))))
-word-byte f (suc w) q (suc i) b h =
-    let e : (f q + 256 * word f (suc q) w) / 256 ≡ word f (suc q) w = omega (arith, rw (add-zero q) at (b 0 (omega arith))) in
-    rw (e, add-suc q i, ← suc-add q i) (word-byte f w (suc q) i (λ j k. rw (suc-add q j, ← add-suc q j) (b (suc j) (suc-le-suc k))) (omega arith))
 
 -- a word that is written puts each of its bytes
 pub put-word : (f : ℕ → ℕ) (w v b : ℕ) (P Q : List ℕ) → ((i : ℕ) → i < w → f i < 256) → v ≡ word f 0 w → Q ≡ over b w (λ q. byteOf v (q - b)) P
