@@ -13,8 +13,8 @@ use Rattle.number.proofs.TestLaws.{Test, is-true, is-false, test, and-true, and
 use Rattle.number.specs.Little.{word}
 use Rattle.number.specs.Parts.{at}
 use Rattle.number.proofs.LittleLaws.{word-same}
-use Rattle.plain.specs.declared.Beginning.{Beginning}
-use Rattle.plain.specs.declared.Beginning.the-variants.{Unwritten, Written, Literal}
+use Rattle.types.specs.declared.Beginning.{Beginning}
+use Rattle.types.specs.declared.Beginning.the-variants.{Unwritten, Written, Literal}
 use Rattle.plain.specs.Call as plain
 use Rattle.calls_format.specs.Records.{Request, call, lengthField, kindField, field, fieldsOf, requestOf, recordLength, decodeAs, decode}
 use Rattle.calls_format.specs.Decoded.{beginKind, Records, kindOf, lengthFor, lengthOf, longest, writes}

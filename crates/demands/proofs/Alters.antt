@@ -12,7 +12,7 @@ use Rattle.number.proofs.PartLaws.{length-over, at-tab-out}
 use Rattle.map.specs.FormMap.{FormMap}
 use Rattle.map.specs.Map.{goodMap}
 use Rattle.map.proofs.MapLaws.{Good, good-true, within-true, true-within, number-holds}
-use Rattle.plain.specs.declared.Beginning.{Beginning}
+use Rattle.types.specs.declared.Beginning.{Beginning}
 use Rattle.plain.specs.Block.{Block, len, startsWritten, begun}
 use Rattle.plain.specs.Rules.{Placed}
 use Rattle.plain.specs.Areas.{segments, placeLength, heapRules, stackRules, mapRules}

@@ -10,8 +10,8 @@ use Rattle.number.specs.Bits.{bit}
 use Rattle.number.proofs.TestLaws.{and-true}
 use Rattle.map.specs.FormMap.{FormMap}
 use Rattle.map.specs.Map.{goodMap}
-use Rattle.plain.specs.declared.Beginning.{Beginning}
-use Rattle.plain.specs.declared.Beginning.the-variants.{Unwritten, Written, Literal}
+use Rattle.types.specs.declared.Beginning.{Beginning}
+use Rattle.types.specs.declared.Beginning.the-variants.{Unwritten, Written, Literal}
 use Rattle.plain.specs.Block.{Block, startsWritten, startsLiteral, begun}
 use Rattle.plain.specs.Blocks.{insert}
 use Rattle.plain.specs.Rules.{Proper}

@@ -14,8 +14,8 @@ use Rattle.number.proofs.TestLaws.{Test, is-true, is-false, test}
 use Rattle.map.specs.FormMap.{FormMap, desk}
 use Rattle.map.specs.Map.{goodMap}
 use Rattle.map.proofs.MapLaws.{good-true, within-true, true-within, segment-least, number-holds}
-use Rattle.plain.specs.declared.Beginning.{Beginning}
-use Rattle.plain.specs.declared.Beginning.the-variants.{Unwritten}
+use Rattle.types.specs.declared.Beginning.{Beginning}
+use Rattle.types.specs.declared.Beginning.the-variants.{Unwritten}
 use Rattle.plain.specs.Areas.{segments, heapRules}
 use Rattle.plain.specs.Block.{len, startsWritten, begun}
 use Rattle.plain.specs.Call.{begin, record-block, ask, Answer, answer}

@@ -11,8 +11,8 @@ use lib.Dec.{eqb}
 use Rattle.number.specs.Parts.{at, inPart}
 use Rattle.number.proofs.TestLaws.{Test, is-true, is-false, test, false-of, in-facts}
 use Rattle.map.specs.FormMap.{FormMap}
-use Rattle.plain.specs.declared.Beginning.{Beginning}
-use Rattle.plain.specs.declared.Beginning.the-variants.{Written, Literal}
+use Rattle.types.specs.declared.Beginning.{Beginning}
+use Rattle.types.specs.declared.Beginning.the-variants.{Written, Literal}
 use Rattle.plain.specs.Block.{len, startsWritten, begun}
 use Rattle.plain.specs.Blocks.{here}
 use Rattle.plain.specs.Rules.{Placed}

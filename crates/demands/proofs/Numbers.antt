@@ -10,8 +10,8 @@ use Rattle.number.specs.Bits.{bit}
 use Rattle.map.specs.FormMap.{FormMap}
 use Rattle.map.specs.Map.{goodMap}
 use Rattle.map.proofs.MapLaws.{good-true, within-true}
-use Rattle.plain.specs.declared.Beginning.{Beginning}
-use Rattle.plain.specs.declared.Beginning.the-variants.{Unwritten, Written, Literal}
+use Rattle.types.specs.declared.Beginning.{Beginning}
+use Rattle.types.specs.declared.Beginning.the-variants.{Unwritten, Written, Literal}
 use Rattle.plain.specs.Areas.{placeLength, mapRules}
 use Rattle.plain.specs.Ops.{readAny}
 use Rattle.plain.specs.Reading.{Reading, nothing, block, damaged}

@@ -16,8 +16,8 @@ use Rattle.number.proofs.PartLaws.{zeros-at, zeros-all}
 use Rattle.map.specs.FormMap.{FormMap}
 use Rattle.map.specs.Map.{goodMap}
 use Rattle.map.proofs.MapLaws.{good-true, true-within, segment-least}
-use Rattle.plain.specs.declared.Beginning.{Beginning}
-use Rattle.plain.specs.declared.Beginning.the-variants.{Unwritten, Written}
+use Rattle.types.specs.declared.Beginning.{Beginning}
+use Rattle.types.specs.declared.Beginning.the-variants.{Unwritten, Written}
 use Rattle.plain.specs.Areas.{segments, placeLength}
 use Rattle.plain.specs.Gaps.{Gap, best, Among}
 use Rattle.plain.specs.Call.{begin, record-block, record-written, place, Answer, answer, number}

@@ -15,8 +15,8 @@ use Rattle.number.proofs.TestLaws.{Test, is-true, is-false, test, and-true, in-
 use Rattle.number.proofs.BitLaws.{bit-test, bitOf-lt}
 use Rattle.map.specs.FormMap.{FormMap}
 use Rattle.map.proofs.MapLaws.{Good, good-true, within-true, true-within, segment-least}
-use Rattle.plain.specs.declared.Beginning.{Beginning}
-use Rattle.plain.specs.declared.Beginning.the-variants.{Unwritten, Written, Literal}
+use Rattle.types.specs.declared.Beginning.{Beginning}
+use Rattle.types.specs.declared.Beginning.the-variants.{Unwritten, Written, Literal}
 use Rattle.plain.specs.Areas.{segments, mapRules}
 use Rattle.plain.specs.Block.{Block, len, startsWritten, startsLiteral, begun, contains, isWritten}
 use Rattle.plain.specs.Blocks.{find}

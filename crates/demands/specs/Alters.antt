@@ -9,7 +9,7 @@ use lib.ListN.{length}
 use Rattle.number.specs.Bits.{bitOf}
 use Rattle.number.specs.Parts.{at, inPart}
 use Rattle.map.specs.FormMap.{FormMap}
-use Rattle.plain.specs.declared.Beginning.{Beginning}
+use Rattle.types.specs.declared.Beginning.{Beginning}
 use Rattle.plain.specs.Areas.{segments}
 use Rattle.plain.specs.Block.{begun}
 use Rattle.plain.specs.Call.{Call, begin, record-block, record-written, record-literal, free, written}

@@ -12,7 +12,7 @@ use Rattle.number.specs.Parts.{at}
 use Rattle.map.specs.declared.Map.{Map}
 use Rattle.map.specs.FormMap.{FormMap, areas, player, desk}
 use Rattle.map.specs.Map.{goodMap}
-use Rattle.plain.specs.declared.Beginning.{Beginning}
+use Rattle.types.specs.declared.Beginning.{Beginning}
 use Rattle.plain.specs.Areas.{segments}
 use Rattle.plain.specs.Block.{Block}
 use Rattle.plain.specs.Call.{begin, record-block, ask, answer}

@@ -8,7 +8,7 @@ use lib.Dec.{leb, eqb}
 use Rattle.number.specs.Parts.{at, zeros}
 use Rattle.map.specs.FormMap.{FormMap}
 use Rattle.map.specs.Map.{goodMap}
-use Rattle.plain.specs.declared.Beginning.the-variants.{Unwritten, Written, Literal}
+use Rattle.types.specs.declared.Beginning.the-variants.{Unwritten, Written, Literal}
 use Rattle.plain.specs.Areas.{segments}
 use Rattle.plain.specs.Reading.{Reading}
 use Rattle.plain.specs.Call.{Call, clear, begin, free, remove, written, ask, valid, initialised, next, audit, place, Refusal}

@@ -16,8 +16,8 @@ use Rattle.plain.specs.Areas.{mapRules}
 use Rattle.plain.specs.Join.{writeOne}
 use Rattle.plain.specs.Ops.{readAny}
 use Rattle.plain.specs.Reading.{Reading, nothing, block, damaged}
-use Rattle.plain.specs.declared.Beginning.{Beginning}
-use Rattle.plain.specs.declared.Beginning.the-variants.{Unwritten, Written, Literal}
+use Rattle.types.specs.declared.Beginning.{Beginning}
+use Rattle.types.specs.declared.Beginning.the-variants.{Unwritten, Written, Literal}
 use Rattle.plain.specs.Call.{clear, begin, free, remove, written, ask, valid, initialised, next, audit, place, Answer, yesNo, firstOf, unless}
 use Rattle.plain.specs.ShadowCalls.{isFirst, lengthOf}
 use Rattle.shadows.specs.Shadows.{lengthsFit, shadowOps}

@@ -9,7 +9,7 @@ use Rattle.number.specs.Little.{byteOf, word}
 use Rattle.number.specs.Parts.{at, inPart}
 use Rattle.map.specs.declared.Map.{Map}
 use Rattle.map.specs.FormMap.{player}
-use Rattle.plain.specs.declared.Beginning.{Beginning}
+use Rattle.types.specs.declared.Beginning.{Beginning}
 use Rattle.plain.specs.Reading.{Reading, nothing, block, damaged}
 use Rattle.plain.specs.Call.{clear, begin, free, remove, written, ask, valid, initialised, next, audit, place, answer}
 use Rattle.plain.specs.ShadowCalls.{lengthOf}

@@ -1,9 +1,10 @@
 // The desk's calls for C and Rust to link, with the parameters of the player's (`monitor_c`): a map is an array of four numbers, a shadow a pointer
 // and a length, the answer fields go into a lent array of four, and the number is returned.
 ghost use mathlib.Core.Path.{_≡_};
-ghost use Rattle.map.specs.FormMap.{desk};
-ghost use Rattle.plain.specs.Call as plain;
-ghost use Rattle.monitor_base.specs.Calls.{call};
+ghost use Rattle.types.specs.Shadows.{shadows};
+ghost use Rattle.types.specs.Call as calls;
+ghost use Rattle.specification.specs.Desk.{desk};
+ghost use Rattle.specification.specs.Call.{call};
 ghost use Rattle.monitor_c_lent.specs.Lent.{mapOf, beginningOf, left};
 use map::Address;
 use map::Form;
@@ -20,7 +21,7 @@ pub extern "C" fn block_monitor_desk_clear(
     fields: &mut [u32; 4],
 ) -> u32
     ensures { λ k. ⌜ left k (now (fields .exit)) (now (heap .exit)) (now (primary .exit)) (now (secondary .exit))
-        ≡ call (desk (mapOf (now (map .entry)))) (plain.clear) (now (heap .entry), (now (primary .entry), now (secondary .entry))) ⌝ }
+        ≡ call desk (mapOf (now (map .entry))) calls.clear (shadows (now (heap .entry)) (now (primary .entry)) (now (secondary .entry))) ⌝ }
 {
     told(
         monitor::clear(Form::Desk, map_of(map), heap, primary, secondary),
@@ -41,7 +42,7 @@ pub extern "C" fn block_monitor_desk_begin(
     fields: &mut [u32; 4],
 ) -> u32
     ensures { λ k. ⌜ left k (now (fields .exit)) (now (heap .exit)) (now (primary .exit)) (now (secondary .exit))
-        ≡ call (desk (mapOf (now (map .entry)))) (plain.begin (beginningOf how) base length) (now (heap .entry), (now (primary .entry), now (secondary .entry))) ⌝ }
+        ≡ call desk (mapOf (now (map .entry))) (calls.begin (beginningOf how) base length) (shadows (now (heap .entry)) (now (primary .entry)) (now (secondary .entry))) ⌝ }
 {
     told(
         monitor::begin(
@@ -68,7 +69,7 @@ pub extern "C" fn block_monitor_desk_free(
     fields: &mut [u32; 4],
 ) -> u32
     ensures { λ k. ⌜ left k (now (fields .exit)) (now (heap .exit)) (now (primary .entry)) (now (secondary .entry))
-        ≡ call (desk (mapOf (now (map .entry)))) (plain.free base) (now (heap .entry), (now (primary .entry), now (secondary .entry))) ⌝ }
+        ≡ call desk (mapOf (now (map .entry))) (calls.free base) (shadows (now (heap .entry)) (now (primary .entry)) (now (secondary .entry))) ⌝ }
 {
     told(
         monitor::free(
@@ -93,7 +94,7 @@ pub extern "C" fn block_monitor_desk_remove(
     fields: &mut [u32; 4],
 ) -> u32
     ensures { λ k. ⌜ left k (now (fields .exit)) (now (heap .entry)) (now (primary .exit)) (now (secondary .exit))
-        ≡ call (desk (mapOf (now (map .entry)))) (plain.remove base) (now (heap .entry), (now (primary .entry), now (secondary .entry))) ⌝ }
+        ≡ call desk (mapOf (now (map .entry))) (calls.remove base) (shadows (now (heap .entry)) (now (primary .entry)) (now (secondary .entry))) ⌝ }
 {
     told(
         monitor::remove(
@@ -119,7 +120,7 @@ pub extern "C" fn block_monitor_desk_written(
     fields: &mut [u32; 4],
 ) -> u32
     ensures { λ k. ⌜ left k (now (fields .exit)) (now (heap .exit)) (now (primary .exit)) (now (secondary .exit))
-        ≡ call (desk (mapOf (now (map .entry)))) (plain.written address n) (now (heap .entry), (now (primary .entry), now (secondary .entry))) ⌝ }
+        ≡ call desk (mapOf (now (map .entry))) (calls.written address n) (shadows (now (heap .entry)) (now (primary .entry)) (now (secondary .entry))) ⌝ }
 {
     told(
         monitor::written(
@@ -145,7 +146,7 @@ pub extern "C" fn block_monitor_desk_ask(
     fields: &mut [u32; 4],
 ) -> u32
     ensures { λ k. ⌜ left k (now (fields .exit)) (now (heap .entry)) (now (primary .entry)) (now (secondary .entry))
-        ≡ call (desk (mapOf (now (map .entry)))) (plain.ask address) (now (heap .entry), (now (primary .entry), now (secondary .entry))) ⌝ }
+        ≡ call desk (mapOf (now (map .entry))) (calls.ask address) (shadows (now (heap .entry)) (now (primary .entry)) (now (secondary .entry))) ⌝ }
 {
     told(
         monitor::ask(
@@ -174,7 +175,7 @@ pub extern "C" fn block_monitor_desk_access(
     fields: &mut [u32; 4],
 ) -> u32
     ensures { λ k. ⌜ left k (now (fields .exit)) (now (heap .entry)) (now (primary .entry)) (now (secondary .entry))
-        ≡ call (desk (mapOf (now (map .entry)))) (plain.valid write address n from) (now (heap .entry), (now (primary .entry), now (secondary .entry))) ⌝ }
+        ≡ call desk (mapOf (now (map .entry))) (calls.valid write address n from) (shadows (now (heap .entry)) (now (primary .entry)) (now (secondary .entry))) ⌝ }
 {
     told(
         monitor_c_lent::valid(
@@ -203,7 +204,7 @@ pub extern "C" fn block_monitor_desk_initialised(
     fields: &mut [u32; 4],
 ) -> u32
     ensures { λ k. ⌜ left k (now (fields .exit)) (now (heap .entry)) (now (primary .entry)) (now (secondary .entry))
-        ≡ call (desk (mapOf (now (map .entry)))) (plain.initialised address n) (now (heap .entry), (now (primary .entry), now (secondary .entry))) ⌝ }
+        ≡ call desk (mapOf (now (map .entry))) (calls.initialised address n) (shadows (now (heap .entry)) (now (primary .entry)) (now (secondary .entry))) ⌝ }
 {
     told(
         monitor::initialised(
@@ -229,7 +230,7 @@ pub extern "C" fn block_monitor_desk_next(
     fields: &mut [u32; 4],
 ) -> u32
     ensures { λ k. ⌜ left k (now (fields .exit)) (now (heap .entry)) (now (primary .entry)) (now (secondary .entry))
-        ≡ call (desk (mapOf (now (map .entry)))) (plain.next address) (now (heap .entry), (now (primary .entry), now (secondary .entry))) ⌝ }
+        ≡ call desk (mapOf (now (map .entry))) (calls.next address) (shadows (now (heap .entry)) (now (primary .entry)) (now (secondary .entry))) ⌝ }
 {
     told(
         monitor::next(
@@ -253,7 +254,7 @@ pub extern "C" fn block_monitor_desk_audit(
     fields: &mut [u32; 4],
 ) -> u32
     ensures { λ k. ⌜ left k (now (fields .exit)) (now (heap .entry)) (now (primary .entry)) (now (secondary .entry))
-        ≡ call (desk (mapOf (now (map .entry)))) (plain.audit) (now (heap .entry), (now (primary .entry), now (secondary .entry))) ⌝ }
+        ≡ call desk (mapOf (now (map .entry))) calls.audit (shadows (now (heap .entry)) (now (primary .entry)) (now (secondary .entry))) ⌝ }
 {
     told(
         monitor::audit(Form::Desk, map_of(map), heap, primary, secondary),
@@ -272,7 +273,7 @@ pub extern "C" fn block_monitor_desk_place(
     fields: &mut [u32; 4],
 ) -> u32
     ensures { λ k. ⌜ left k (now (fields .exit)) (now (heap .entry)) (now (primary .entry)) (now (secondary .entry))
-        ≡ call (desk (mapOf (now (map .entry)))) (plain.place length budget) (now (heap .entry), (now (primary .entry), now (secondary .entry))) ⌝ }
+        ≡ call desk (mapOf (now (map .entry))) (calls.place length budget) (shadows (now (heap .entry)) (now (primary .entry)) (now (secondary .entry))) ⌝ }
 {
     told(
         monitor_c_lent::place(Form::Desk, map, heap, primary, secondary, length, budget),

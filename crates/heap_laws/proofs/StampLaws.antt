@@ -10,7 +10,7 @@ use Rattle.number.specs.Bits.{ofBits}
 use Rattle.number.specs.Parts.{over}
 use Rattle.number.proofs.TestLaws.{in-true}
 use Rattle.number.proofs.PartLaws.{over-next, over-ext}
-use Rattle.plain.specs.declared.Beginning.{Beginning}
+use Rattle.types.specs.declared.Beginning.{Beginning}
 use Rattle.plain.specs.Block.{Block, len, startsWritten, begun}
 use Rattle.plain.specs.Areas.{segments, placeLength}
 use Rattle.plain.specs.Layer.{layer}

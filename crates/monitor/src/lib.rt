@@ -3,6 +3,9 @@ ghost use mathlib.Core.Path.{_≡_};
 ghost use Rattle.map.specs.FormMap.{under};
 ghost use Rattle.monitor_base.specs.Answers.{outcome, callOf, anyCallOf};
 ghost use Rattle.monitor_base.specs.Calls as calls;
+ghost use Rattle.types.specs.Shadows.{shadows};
+ghost use Rattle.specification.specs.Call as specification;
+ghost use Rattle.specification.specs.Call.{formOf};
 use map::Form;
 use map::Map;
 pub use monitor_ask::ask;
@@ -57,7 +60,7 @@ pub fn step(
     secondary: &mut [u8],
 ) -> Answer
     ensures { λ r. ⌜ outcome r (now (heap .exit)) (now (primary .exit)) (now (secondary .exit))
-        ≡ calls.call (under form map) (anyCallOf call) (now (heap .entry), (now (primary .entry), now (secondary .entry))) ⌝ }
+        ≡ specification.call (formOf form) map (anyCallOf call) (shadows (now (heap .entry)) (now (primary .entry)) (now (secondary .entry))) ⌝ }
 {
     match call {
         PlainCall::Call(c) => call_step(c, form, map, heap, primary, secondary),

@@ -5,8 +5,8 @@ use Prim.Native.Nat.{ℕ}
 use lib.Dec.{eqb}
 use Rattle.number.specs.Parts.{at}
 use Rattle.map.specs.declared.Map.{Map}
-use Rattle.plain.specs.declared.Beginning.{Beginning}
-use Rattle.plain.specs.declared.Beginning.the-variants.{Unwritten, Written, Literal}
+use Rattle.types.specs.declared.Beginning.{Beginning}
+use Rattle.types.specs.declared.Beginning.the-variants.{Unwritten, Written, Literal}
 use Rattle.plain.specs.Call.{Answer, answer}
 use Rattle.shadows.specs.Shadows.{Shadows}
 

@@ -14,15 +14,15 @@ use Rattle.number.proofs.TestLaws.{and-true, and-false-r}
 use Rattle.map.specs.FormMap.{FormMap, areas}
 use Rattle.map.specs.declared.Area.the-variants as area
 use Rattle.map.specs.Map.{goodMap, areaOf}
-use Rattle.plain.specs.declared.Beginning.{Beginning}
-use Rattle.plain.specs.declared.Beginning.the-variants.{Unwritten, Written, Literal}
+use Rattle.types.specs.declared.Beginning.{Beginning}
+use Rattle.types.specs.declared.Beginning.the-variants.{Unwritten, Written, Literal}
 use Rattle.plain.specs.Block.{startsLiteral, begun}
 use Rattle.plain.specs.Rules.{Rules}
 use Rattle.plain.specs.Ops.{Ops}
 use Rattle.plain.specs.Areas.{mapRules}
 use Rattle.plain.specs.Call.{Call, Answer, begin, record-block, refusal, done, allows}
 use Rattle.plain.specs.ShadowCalls.{shadowStep}
-use Rattle.plain.proofs.Beginning.{the-type}
+use Rattle.types.proofs.Beginning.{the-type}
 use Rattle.plain.proofs.AreaLaws.{heap-span, stack-span}
 use Rattle.plain.proofs.RunLaws.{unless-number}
 use Rattle.shadows.specs.Shadows.{Shadows, lengthsFit, shadowOps}

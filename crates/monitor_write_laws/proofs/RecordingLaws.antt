@@ -8,7 +8,7 @@ use native.Mathlib.Omega.{arith}
 use lib.ListN.{length}
 use borrow.Author.Tests.{eq-eqb, ne-eqb}
 use Rattle.number.proofs.TestLaws.{and-true, false-of}
-use Rattle.plain.specs.declared.Beginning.the-variants.{Unwritten}
+use Rattle.types.specs.declared.Beginning.the-variants.{Unwritten}
 use Rattle.plain.specs.Areas.{heapRules, stackRules}
 use Rattle.plain.specs.Call.{record-block, allows}
 use Rattle.plain.proofs.AreaLaws.{heap-span, span-heap, stack-span, span-stack}

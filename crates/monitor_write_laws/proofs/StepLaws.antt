@@ -6,7 +6,7 @@ use mathlib.Core.List.{[], _∷_}
 use Prim.Native.Nat.{ℕ, zero, suc}
 use lib.Dec.{eqb}
 use borrow.Author.Tests.{eq-eqb, ne-eqb}
-use Rattle.plain.specs.declared.Beginning.{Beginning}
+use Rattle.types.specs.declared.Beginning.{Beginning}
 use Rattle.plain.specs.Block.{begun}
 use Rattle.plain.specs.Rules.{Rules}
 use Rattle.plain.specs.Reading.{Reading}

@@ -8,7 +8,7 @@ use lib.ListN.{length}
 use lib.Dec.{eqb}
 use Rattle.map.specs.FormMap.{FormMap, areas}
 use Rattle.map.specs.declared.Position.{Position}
-use Rattle.plain.specs.declared.Beginning.{Beginning}
+use Rattle.types.specs.declared.Beginning.{Beginning}
 use Rattle.plain.specs.Areas.{mapRules}
 use Rattle.plain.specs.Block.{begun}
 use Rattle.plain.specs.Ops.{markRange, readAny}

@@ -4,6 +4,7 @@ ghost use Rattle.monitor_base.specs.Answers as plainForm;
 ghost use Rattle.origins_list.specs.Call as form;
 ghost use Rattle.origins_base.specs.Answers.{lent, outcome, callOf};
 ghost use Rattle.origins_base.specs.Calls as calls;
+ghost use Rattle.specification_origins.specs.Origins as specification;
 use map::Map;
 pub use monitor_base::Answer;
 pub use monitor_base::Call;
@@ -79,7 +80,7 @@ pub fn step(
     counter: u64,
 ) -> Counted
     ensures { λ r. ⌜ outcome r (now (heap .exit)) (now (primary .exit)) (now (secondary .exit)) (now («heap_cells» .exit)) (now («stack_cells» .exit))
-        ≡ calls.call map (callOf call)
+        ≡ specification.call map (callOf call)
         (lent (now (heap .entry)) (now (primary .entry)) (now (secondary .entry)) (now («heap_cells» .entry)) (now («stack_cells» .entry)) counter) ⌝ }
 {
     match call {

@@ -2,10 +2,10 @@
 // pointer to the counter.
 ghost use mathlib.Core.Path.{_≡_};
 ghost use Prim.Native.Nat.{ℕ};
-ghost use Rattle.plain.specs.Call as calls;
-ghost use Rattle.origins_list.specs.Call.{plain, point, copy, live};
+ghost use Rattle.types.specs.Call as calls;
+ghost use Rattle.types.specs.Origins.{plain, point, copy, live};
 ghost use Rattle.origins_base.specs.Answers.{lent};
-ghost use Rattle.origins_base.specs.Calls.{call};
+ghost use Rattle.specification_origins.specs.Origins.{call};
 ghost use Rattle.monitor_c_lent.specs.Lent.{mapOf, beginningOf};
 ghost use Rattle.origins_c_lent.specs.Lent.{left};
 use map::Address;
@@ -25,7 +25,7 @@ pub extern "C" fn block_monitor_origins_clear(
     fields: &mut [u32; 4],
 ) -> u32
     ensures { λ r. ⌜ ((k : ℕ) → left r (now (fields .exit)) (now (heap .exit)) (now (primary .exit)) (now (secondary .exit)) (now («heap_cells» .exit)) (now («stack_cells» .exit)) k
-        ≡ call (mapOf (now (map .entry))) (plain (calls.clear)) (lent (now (heap .entry)) (now (primary .entry)) (now (secondary .entry)) (now («heap_cells» .entry)) (now («stack_cells» .entry)) k)) ⌝ }
+        ≡ call (mapOf (now (map .entry))) (plain calls.clear) (lent (now (heap .entry)) (now (primary .entry)) (now (secondary .entry)) (now («heap_cells» .entry)) (now («stack_cells» .entry)) k)) ⌝ }
 {
     told(
         origins::clear(
@@ -294,7 +294,7 @@ pub extern "C" fn block_monitor_origins_audit(
     fields: &mut [u32; 4],
 ) -> u32
     ensures { λ r. ⌜ ((k : ℕ) → left r (now (fields .exit)) (now (heap .entry)) (now (primary .entry)) (now (secondary .entry)) (now («heap_cells» .entry)) (now («stack_cells» .entry)) k
-        ≡ call (mapOf (now (map .entry))) (plain (calls.audit)) (lent (now (heap .entry)) (now (primary .entry)) (now (secondary .entry)) (now («heap_cells» .entry)) (now («stack_cells» .entry)) k)) ⌝ }
+        ≡ call (mapOf (now (map .entry))) (plain calls.audit) (lent (now (heap .entry)) (now (primary .entry)) (now (secondary .entry)) (now («heap_cells» .entry)) (now («stack_cells» .entry)) k)) ⌝ }
 {
     told(
         origins::audit(

@@ -11,7 +11,7 @@ use lib.Dec.{eqb}
 use lib.ListN.{length-replicate}
 use borrow.Author.Tests.{eqb-true, eqb-false}
 use Rattle.number.proofs.TestLaws.{Test, is-true, is-false, test, and-true}
-use Rattle.plain.specs.declared.Beginning.{Beginning}
+use Rattle.types.specs.declared.Beginning.{Beginning}
 use Rattle.plain.specs.Block.{Block, len, startsWritten, startsLiteral, begun, contains, hasBase}
 use Rattle.plain.specs.Blocks.{find, found, any}
 use Rattle.plain.specs.Rules.{Rules, Sound, meets}

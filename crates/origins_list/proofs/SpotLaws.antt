@@ -9,7 +9,7 @@ use lib.ListN.{length-set, length-replicate}
 use lib.Dec.{leb, ltb, eqb}
 use borrow.Author.Tests.{eq-eqb, eqb-true}
 use Rattle.number.proofs.TestLaws.{Test, is-true, is-false, test, same-test}
-use Rattle.plain.specs.declared.Beginning.{Beginning}
+use Rattle.types.specs.declared.Beginning.{Beginning}
 use Rattle.plain.specs.Block.{Block, len, startsWritten, begun, contains, holds, hasBase, markBlock}
 use Rattle.plain.specs.Blocks.{find, found, any, insert, remove, markOne, markAll}
 use Rattle.plain.specs.Rules.{Rules, Placed, Sound, meets}

@@ -9,7 +9,7 @@ use native.Mathlib.Omega.{arith}
 use lib.Dec.{leb, eqb}
 use borrow.Author.Tests.{ne-eqb, leb-true, eqb-true, eqb-false}
 use Rattle.number.proofs.TestLaws.{Test, is-true, is-false, test, and-true, or-false, not-both}
-use Rattle.plain.specs.declared.Beginning.{Beginning}
+use Rattle.types.specs.declared.Beginning.{Beginning}
 use Rattle.plain.specs.Block.{Block, len, startsLiteral, contains, holds, hasBase}
 use Rattle.plain.specs.Blocks as blocks
 use Rattle.plain.specs.Blocks.{find, found, any, markAll}

@@ -5,17 +5,7 @@ use Prim.Native.Nat.{ℕ, zero, suc, _%_}
 use lib.Dec.{leb, eqb}
 use Rattle.plain.specs.Call as base
 use Rattle.plain.specs.Call.{clear, begin, free, remove, written, ask, valid, initialised, next, audit, place, Refusal}
-
--- arguments are any numbers
-pub data Call : Type 0 where
-  -- a call of the plain form. What place would be is said as of every other; the library of this form does not offer it
-  plain : base.Call → Call
-  -- kind 11: the pointer in a cell is set to the block that holds the address, or to none
-  point : (cell address : ℕ) → Call
-  -- kind 12: the pointer in a cell is set as that in another
-  copy : (to from : ℕ) → Call
-  -- kind 13: the allocation that the pointer in a cell was last set to is live and holds the address
-  live : (cell address : ℕ) → Call
+pub use Rattle.types.specs.Origins.{Call, plain, point, copy, live}
 
 -- an address is that of a cell
 abbrev pub isCell : ℕ → Bool

@@ -14,16 +14,7 @@ use Rattle.plain.specs.PlainList.{byList, listAfter, listAnswer}
 use Rattle.origins_list.specs.Call.{Call, plain, point, copy, live, isCell, Role, clears, begins, ends, leaves, roleOf, unaligned, usedUp}
 use Rattle.origins_list.specs.Cells.{Held, empty, put, cut}
 use Rattle.origins_list.specs.StateCalls.{counterAfter}
-
-pub record OriginList : Type 0 where
-  -- the live blocks, in address order
-  pub blocks : List Block
-  -- the origin of the live block with this base, 0 where there is none
-  pub origin : Held
-  -- the referent of the pointer that is set in this cell, 0 where none is
-  pub referent : Held
-  -- the origin of the next block
-  pub counter : ℕ
+pub use Rattle.types.specs.Origins.{OriginList}
 
 -- no block, and no pointer set; the counter stands at k
 abbrev pub firstListAt : (k : ℕ) → OriginList

@@ -11,12 +11,7 @@ use Rattle.plain.specs.Call.{Answer, done, yesNo, Refusal, firstOf, unless, byR
 use Rattle.plain.specs.ShadowCalls.{isDamaged, inOne, lengthOf, byShadows, shadowsAfter, shadowAnswer}
 use Rattle.origins_list.specs.Call.{Call, plain, point, copy, live, isCell, Role, clears, begins, ends, leaves, roleOf, unaligned, usedUp, takesOrigin}
 use Rattle.origins_list.specs.CellOps.{CellOps}
-
--- the block shadows, the cells, and the counter: the origin of the next block
-pub record State (S C : Type 0) : Type 0 where
-  pub shadows : S
-  pub cells : C
-  pub counter : ℕ
+pub use Rattle.types.specs.Origins.{State}
 
 -- the origin of the block that a reading gives, or 0 where there is none: it stands in the cell of the block's base
 abbrev pub originRead : {C : Type 0} → CellOps C → C → Reading → ℕ

@@ -10,7 +10,7 @@ use Rattle.number.proofs.TestLaws.{Test, is-true, is-false, test, and-true}
 use Rattle.map.specs.declared.Map.{Map}
 use Rattle.map.specs.FormMap.{player}
 use Rattle.map.specs.Map.{goodMap}
-use Rattle.plain.specs.declared.Beginning.{Beginning}
+use Rattle.types.specs.declared.Beginning.{Beginning}
 use Rattle.plain.specs.Block.{begun}
 use Rattle.plain.specs.Areas.{mapRules}
 use Rattle.plain.specs.Call.{Answer, begin, refusal, done, firstOf, unless, allows}

@@ -9,7 +9,7 @@ use lib.Dec.{eqb}
 use lib.ListN.{length-replicate}
 use borrow.Author.Tests.{eqb-false}
 use Rattle.number.proofs.TestLaws.{Test, is-true, is-false, test, and-true}
-use Rattle.plain.specs.declared.Beginning.{Beginning}
+use Rattle.types.specs.declared.Beginning.{Beginning}
 use Rattle.plain.specs.Block.{Block, len, startsWritten, startsLiteral, begun}
 use Rattle.plain.specs.Blocks.{any, insert}
 use Rattle.plain.specs.Rules.{Rules, Placed, meets}

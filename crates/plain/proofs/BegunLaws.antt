@@ -11,8 +11,8 @@ use lib.Dec.{ltb}
 use borrow.Author.Tests.{ltb-true, ltb-false, ne-eqb}
 use Rattle.number.specs.Bits.{bit}
 use Rattle.number.proofs.TestLaws.{Test, is-true, is-false, test, and-true, and-false-r, false-of}
-use Rattle.plain.specs.declared.Beginning.{Beginning}
-use Rattle.plain.specs.declared.Beginning.the-variants.{Written}
+use Rattle.types.specs.declared.Beginning.{Beginning}
+use Rattle.types.specs.declared.Beginning.the-variants.{Written}
 use Rattle.plain.specs.Block.{Block, len, startsWritten, startsLiteral, begun, contains, holds, isWritten, markBlock}
 use Rattle.plain.specs.Blocks.{find, found, any, insert, markOne, markAll}
 use Rattle.plain.specs.Rules.{Rules, Placed, Sound, meets}

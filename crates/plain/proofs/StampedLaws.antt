@@ -8,8 +8,8 @@ use native.Mathlib.Omega.{arith}
 use native.Mathlib.Nat.{sub-self}
 use lib.ListN.{set, length-set, length-replicate}
 use Rattle.number.proofs.TestLaws.{Test, is-true, is-false, test, false-of}
-use Rattle.plain.specs.declared.Beginning.{Beginning}
-use Rattle.plain.specs.declared.Beginning.the-variants.{Written}
+use Rattle.types.specs.declared.Beginning.{Beginning}
+use Rattle.types.specs.declared.Beginning.the-variants.{Written}
 use Rattle.plain.specs.Block.{Block, len, startsWritten, startsLiteral, begun, contains, markBlock}
 use Rattle.plain.specs.Rules.{Rules, Proper, Sound}
 use Rattle.plain.specs.Reading.{Reading, nothing, block, damaged}

@@ -1,20 +1,11 @@
 -- A live block, and what it holds. Addresses and lengths are whole numbers. Assumes nothing.
 use mathlib.Core.Bool.{Bool, true, false, _&&_}
-use mathlib.Core.List.{List}
 use Prim.Native.Nat.{ℕ, zero, suc, _+_, _-_}
-use lib.ListN.{length, getD, set, replicate}
+use lib.ListN.{getD, set, replicate}
 use lib.Dec.{leb, ltb, eqb}
-use Rattle.plain.specs.declared.Beginning.{Beginning}
-use Rattle.plain.specs.declared.Beginning.the-variants.{Unwritten, Written, Literal}
-
--- where it begins, for each of its bytes whether it is written, and whether it is a literal: may be read, never written
-pub record Block : Type 0 where
-  pub base : ℕ
-  pub marks : List Bool
-  pub literal : Bool
-
-abbrev pub len : Block → ℕ
-len b = length (b .marks)
+use Rattle.types.specs.declared.Beginning.{Beginning}
+use Rattle.types.specs.declared.Beginning.the-variants.{Unwritten, Written, Literal}
+pub use Rattle.types.specs.Block.{Block, len}
 
 -- how a block begins: is every byte of it written, or none; is it a literal
 abbrev pub startsWritten : Beginning → Bool

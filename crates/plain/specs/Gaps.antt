@@ -8,11 +8,7 @@ use mathlib.Core.Option.{Option, none, some}
 use Prim.Native.Nat.{ℕ, zero, suc, _+_, _*_, _-_, _<_}
 use lib.Dec.{leb}
 use Rattle.number.specs.Parts.{Each}
-
--- a longest run of free segments: where it begins, and its bytes
-pub record Gap : Type 0 where
-  pub start : ℕ
-  pub bytes : ℕ
+pub use Rattle.types.specs.Gap.{Gap}
 
 -- a heap of segments of G bytes from `from` on; segment i is free where `free` says so
 module _ (G from : ℕ) (free : ℕ → Bool) where

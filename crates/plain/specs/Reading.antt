@@ -7,12 +7,7 @@ use Rattle.number.specs.Bits.{bit}
 use Rattle.plain.specs.Block.{Block, len, contains, isWritten}
 use Rattle.plain.specs.Blocks.{find, count, live, written}
 use Rattle.plain.specs.Rules.{Rules}
-
-pub data Reading : Type 0 where
-  nothing : Reading
-  -- the last: the block is a literal, which may not be written
-  block : (base length offset written : ℕ) (literal : Bool) → Reading
-  damaged : Reading
+pub use Rattle.types.specs.Reading.{Reading, nothing, block, damaged}
 
 -- heap blocks, stack blocks, live bytes, written bytes
 pub data Tally : Type 0 where

@@ -1,12 +1,6 @@
 // What the layouts answer, by positions. The theory of lists of blocks stands in specs/ and proofs/.
 use map::Position;
-
-// How a block begins: no byte written, every byte written, or as a literal, which is written and stays as it is.
-pub enum Beginning {
-    Unwritten,
-    Written,
-    Literal,
-}
+pub use types::Beginning;
 
 // The reading of a position: base, length, offset, and two bits: 1 where the byte is written, 2 where its block is a literal.
 pub enum Reading {

@@ -1,2 +1,4 @@
 pub mod Demands
 pub mod Promises
+pub mod ThirdVote
+pub mod RequestVotes

@@ -19,10 +19,7 @@ use Rattle.stack_layout.specs.Image.{stackImage}
 use Rattle.stack_layout.specs.Ops.{stackOps}
 use Rattle.stack_layout.specs.Reading as stack
 use Rattle.stack_layout.specs.Reading.{stackLooks}
-
--- the heap shadow; primary and secondary
-abbrev pub Shadows : Type 0
-Shadows = List ℕ × (List ℕ × List ℕ)
+pub use Rattle.types.specs.Shadows.{Shadows}
 
 -- each shadow is as long as its area
 unfoldable pub lengthsFit : FormMap → Shadows → Bool

@@ -12,7 +12,7 @@ use Rattle.number.specs.Little.{byteOf}
 use Rattle.number.specs.Parts.{at, zeros, over}
 use Rattle.number.proofs.TestLaws.{and-true, in-true}
 use Rattle.number.proofs.PartLaws.{zeros-at, over-none, over-ext, over-next, over-tail}
-use Rattle.plain.specs.declared.Beginning.{Beginning}
+use Rattle.types.specs.declared.Beginning.{Beginning}
 use Rattle.plain.specs.Block.{startsWritten, startsLiteral, begun}
 use Rattle.plain.specs.Layer.{layer}
 use Rattle.stack_layout.specs.Code.{shortCode, pieceOf, codeOf, pieceByte, lowBits, primaryOf, secondaryOf}

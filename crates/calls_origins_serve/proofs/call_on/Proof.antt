@@ -4,6 +4,7 @@ use native.Mathlib.Nat.{sub-zero}
 use denote.Ref.{now}
 use Rattle.calls_origins_format.proofs.KeptLaws.{on-parts}
 use borrow.Author.Needs.{needs}
+use Rattle.specification_origins.proofs.OriginsSame.{call-same}
 use Rattle.calls_origins_serve.proofs.call_on.Statement.{statement}
 use Rattle.calls_origins_serve.proofs.call_on.Tie as tie
 
@@ -99,7 +100,7 @@ returns c =
     (e .step .kept .1 .1 .1 .1 .0)
     (e .step .kept .1 .1 .1 .1 .1 .0)
     (e .step .kept .1 .1 .1 .1 .1 .1 .0)
-    (e .step .ensures)
+    (e .step .ensures ∙ call-same _ _ _)
 
 pub call-on-spec : {M : Type 1} → statement M
 call-on-spec =

@@ -1,5 +1,6 @@
 -- `monitor::step` meets its contract: a call that every form has, or place. Assumes nothing.
 use borrow.Author.Needs.{needs}
+use Rattle.specification.proofs.Same.{said-of}
 use Rattle.monitor.proofs.step.Statement.{statement}
 use Rattle.monitor.proofs.step.Tie as tie
 
@@ -26,7 +27,9 @@ same-length-3 c = search needs
 
 returns : tie.Need-returns
 returns c =
-    rw (c .before .before .before .before .before .before .before .before .before .before .before .call .given .1) (c .before .before .before .before .before .before .call-step .ensures)
+    let x = c .before .before .before .before .before .before .before .before .before .before .before in
+    let e = x .before .before .before .before .before .args in
+    rw (x .call .given .1) (said-of (e .form) (e .map) _ _ _ (c .before .before .before .before .before .before .call-step .ensures))
 
 same-length-4 : tie.Need-same-length-4
 same-length-4 c = search needs
@@ -38,7 +41,10 @@ same-length-6 : tie.Need-same-length-6
 same-length-6 c = search needs
 
 returns-2 : tie.Need-returns-2
-returns-2 c = rw (c .before .before .before .before .before .call2 .given .1) (c .place .ensures)
+returns-2 c =
+    let x = c .before .before .before .before .before in
+    let e = x .before .before .before .before .before .args in
+    rw (x .call2 .given .1) (said-of (e .form) (e .map) _ _ _ (c .place .ensures))
 
 pub step-spec : {M : Type 1} → statement M
 step-spec =

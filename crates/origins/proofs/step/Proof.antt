@@ -1,5 +1,7 @@
 -- `origins::step` meets its contract: a call of the plain form, or one of pointers. Assumes nothing.
+use mathlib.Core.Path.{sym, _∙_}
 use borrow.Author.Needs.{needs}
+use Rattle.specification_origins.proofs.OriginsSame.{call-same}
 use Rattle.origins.proofs.step.Statement.{statement}
 use Rattle.origins.proofs.step.Tie as tie
 
@@ -33,7 +35,7 @@ same-length-5 c = search needs
 returns : tie.Need-returns
 returns c =
     let x = c .before .before .before .before .before .before .before .before .before .before in
-    rw (x .before .before .before .before .before .before .before .call .given .1) (x .plain-step .ensures)
+    rw (x .before .before .before .before .before .before .before .call .given .1) (x .plain-step .ensures ∙ sym (call-same _ _ _))
 
 same-length-6 : tie.Need-same-length-6
 same-length-6 c = search needs
@@ -53,7 +55,7 @@ same-length-10 c = search needs
 returns-2 : tie.Need-returns-2
 returns-2 c =
     let x = c .before .before .before .before in
-    rw (x .before .before .before .before .before .before .before .call2 .given .1) (x .pointer-step .ensures _)
+    rw (x .before .before .before .before .before .before .before .call2 .given .1) (x .pointer-step .ensures _ ∙ sym (call-same _ _ _))
 
 pub step-spec : {M : Type 1} → statement M
 step-spec =

@@ -1,0 +1,15 @@
+pub mod Forms
+pub mod MapSame
+pub mod BlocksSame
+pub mod HeapSame
+pub mod StackSame
+pub mod ByteSame
+pub mod DeskSame
+pub mod FormSame
+pub mod PlaceSame
+pub mod ListSame
+pub mod CallSame
+pub mod BeginSame
+pub mod ImageSame
+pub mod AuditSame
+pub mod Same

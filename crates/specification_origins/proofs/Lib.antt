@@ -1,0 +1,4 @@
+pub mod CellsSame
+pub mod OriginsSame
+pub mod OriginsListSame
+pub mod HistorySame

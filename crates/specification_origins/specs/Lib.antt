@@ -1,0 +1,5 @@
+pub mod Cells
+pub mod Origins
+pub mod OriginsList
+pub mod History
+pub mod Votes
