@@ -1,4 +1,12 @@
 pub mod Demands
 pub mod Promises
+pub mod ByTable
+pub mod BytesKept
+pub mod FirstVote
+pub mod LooksAlike
+pub mod SecondVote
 pub mod ThirdVote
 pub mod RequestVotes
+pub mod OriginsFirst
+pub mod OriginsHistory
+pub mod OriginsVotes

@@ -145,7 +145,7 @@ module _ (f : kind.Form) (m : Map) (s : Shadows) (g : goodMap (under f m) ≡ tr
   P = form f
 
   -- a list whose image the shadows are
-  of-image : (bs : List Block) → Placed (mapRules (under f m)) 0 bs → s ≡ shadows.image (under f m) bs
+  pub of-image : (bs : List Block) → Placed (mapRules (under f m)) 0 bs → s ≡ shadows.image (under f m) bs
       → (shadowOps (under f m) .audit s ≡ some (tallyOf (mapRules (under f m)) bs)) × (listOf P m s ≡ bs) × (isImage P m s bs ≡ true)
   of-image bs p e =
       let I = shadow-images (under f m) g in
@@ -155,7 +155,7 @@ module _ (f : kind.Form) (m : Map) (s : Shadows) (g : goodMap (under f m) ≡ tr
         rw (placed-stand f m bs 0 p, x, same-self (s .0), same-self (s .1 .0), same-self (s .1 .1)),
       )
 
-  is-image : (bs : List Block) → isImage P m s bs ≡ true → Placed (mapRules (under f m)) 0 bs × (s ≡ shadows.image (under f m) bs)
+  pub is-image : (bs : List Block) → isImage P m s bs ≡ true → Placed (mapRules (under f m)) 0 bs × (s ≡ shadows.image (under f m) bs)
   is-image bs e =
       let (may, sam) = and-true (mayStand P m 0 bs) (sameShadows (image P m bs) s) e in
       let p = stand-placed f m bs 0 may in
