@@ -1,17 +1,11 @@
 -- Every promise, proved: see specs/Promises.antt. Assumes nothing.
-use Rattle.map.specs.FormMap.{player, desk}
+use Rattle.map.specs.declared.Form.the-variants.{Player, Desk}
 use Rattle.promises.specs.Promises.{Promises}
 use Rattle.demands.proofs.Samples.{samples-hold, literal-samples-hold, place-samples-hold, removal-samples-hold, damage-samples-hold}
 use Rattle.demands.proofs.MapSamples.{map-samples-hold, desk-map-samples-hold}
 use Rattle.demands.proofs.DeskSamples.{desk-samples-hold}
-use Rattle.demands.proofs.Demand2.{nine-bytes, seventeen-bytes}
-use Rattle.demands.proofs.Desk.{desk-stores, desk-example}
-use Rattle.demands_origins.proofs.Demand1 as origins
-use Rattle.demands_origins.proofs.Demand3 as origins-runs
-use Rattle.demands_origins.proofs.PlainKinds.{plain-numbers, plain-accepted, audit-plain}
-use Rattle.demands_origins.proofs.Alters.{record-stores, free-zeroes-cells, remove-zeroes-cells, clear-zeroes-cells, counter-left, cells-left, shadows-left, cell-lengths-kept, point-refers, copy-refers, live-told}
-use Rattle.demands_origins.proofs.Demand3.{stays-carried, reached-carries, cells-hold}
-use Rattle.demands_origins.proofs.Judged.{history-each-call, judged-by-history, counter-counts}
+use Rattle.demands.proofs.Desk.{desk-example}
+use Rattle.demands_origins.proofs.Judged.{counter-counts}
 use Rattle.demands_origins.proofs.Samples as origins-samples
 use Rattle.calls_format.proofs.RunningLaws.{same-run, never-damaged}
 use Rattle.calls_format.proofs.NewMapSamples.{new-map-samples-hold}
@@ -24,44 +18,34 @@ use Rattle.calls_origins_format.proofs.RecordLaws.{origins-whole}
 use Rattle.calls_origins_format.proofs.Samples as origins-taken
 use Rattle.calls_origins_format.proofs.Samples.{takes-plain-kinds}
 use Rattle.promises.proofs.Demands.{demands}
+use Rattle.promises.proofs.FirstVote.{first-vote}
+use Rattle.promises.proofs.SecondVote.{player-second, desk-second}
+use Rattle.promises.proofs.ThirdVote.{third-vote}
+use Rattle.promises.proofs.RequestVotes.{written-from-start, free-of-null, literals, places, removals}
+use Rattle.promises.proofs.OriginsVotes.{origins-first-vote, origins-third-vote}
 
 pub promises : Promises
 promises =
     record {
+      player-first = first-vote Player;
+      player-second = player-second;
+      player-third = third-vote Player;
+      desk-first = first-vote Desk;
+      desk-second = desk-second;
+      desk-third = third-vote Desk;
       every-form = demands;
-      player-form = λ m. demands (player m);
-      desk-form = λ m. demands (desk m);
-      nine-bytes = nine-bytes;
-      seventeen-bytes = seventeen-bytes;
-      origins-refused-alters-nothing = origins.refused-alters-nothing;
-      origins-by-the-table = origins.by-the-table;
-      origins-accepted-exactly = origins.accepted-exactly;
-      origins-lowest-wins = origins.lowest-wins;
-      origins-its-row-holds = origins.its-row-holds;
-      plain-numbers = plain-numbers;
-      plain-accepted = plain-accepted;
-      audit-plain = audit-plain;
-      record-stores = record-stores;
-      free-zeroes-cells = free-zeroes-cells;
-      remove-zeroes-cells = remove-zeroes-cells;
-      clear-zeroes-cells = clear-zeroes-cells;
-      counter-left = counter-left;
-      cells-left = cells-left;
-      shadows-left = shadows-left;
-      cell-lengths-kept = cell-lengths-kept;
-      point-refers = point-refers;
-      copy-refers = copy-refers;
-      live-told = live-told;
-      origins-runs-each-call = origins-runs.runs-each-call;
-      origins-whole-run = origins-runs.whole-run;
-      origins-no-damage = origins-runs.no-damage;
-      origins-on-every-image = origins-runs.on-every-image;
-      stays-carried = stays-carried;
-      origins-cleared-run = origins-runs.cleared-run;
-      reached-carries = reached-carries;
-      cells-hold = cells-hold;
-      history-each-call = history-each-call;
-      judged-by-history = judged-by-history;
+      player-written = written-from-start Player;
+      player-null = free-of-null Player;
+      player-literals = literals Player;
+      player-places = places Player;
+      player-removals = removals Player;
+      desk-written = written-from-start Desk;
+      desk-null = free-of-null Desk;
+      desk-literals = literals Desk;
+      desk-places = places Desk;
+      desk-removals = removals Desk;
+      origins-first = origins-first-vote;
+      origins-third = origins-third-vote;
       counter-counts = counter-counts;
       origins-samples-hold = origins-samples.samples-hold;
       samples-hold = samples-hold;
@@ -70,7 +54,6 @@ promises =
       removal-samples-hold = removal-samples-hold;
       map-samples-hold = map-samples-hold;
       damage-samples-hold = damage-samples-hold;
-      desk-stores = desk-stores;
       desk-example = desk-example;
       desk-samples-hold = desk-samples-hold;
       desk-map-samples-hold = desk-map-samples-hold;

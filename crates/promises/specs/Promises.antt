@@ -1,10 +1,15 @@
--- What is promised of the library and of the calls programs, every statement on this page and Demands.antt. `proofs/Promises.antt` proves this one
--- type. Each name below is a statement of a few lines: those of the library stand in crates/demands/specs, in the file that the group names, those of
--- the calls programs in crates/calls_format/specs, calls_origins_format/specs and calls_file/specs. Assumes nothing.
-use Rattle.map.specs.declared.Map.{Map}
-use Rattle.map.specs.FormMap.{FormMap, player, desk}
-use Rattle.demands.specs.Demand2.{NineBytes, SeventeenBytes}
-use Rattle.demands.specs.Desk.{DeskStores, DeskExample}
+-- Everything that is promised of the libraries and of the calls programs, over the specification (crates/specification, specification_origins,
+-- specification_programs). `proofs/Promises.antt` proves this one type. That the code does what is said here is the contract of each exported function
+-- (crates/monitor_c, desk_c, origins_c), of `step` of each library and of each program's turn, which cite the same definitions. Assumes nothing.
+use Rattle.map.specs.FormMap.{FormMap}
+use Rattle.types.specs.Map.{Map}
+use Rattle.specification.specs.Heap.{player}
+use Rattle.specification.specs.Desk.{desk}
+use Rattle.specification.specs.Looks.{playerLooks, deskLooks}
+use Rattle.specification.specs.Votes.{FirstVote, SecondVote, ThirdVote}
+use Rattle.specification.specs.Requests.{WrittenFromStart, FreeOfNull, Literals, Places, Removals}
+use Rattle.specification_origins.specs.Votes as origins
+use Rattle.demands.specs.Desk.{DeskExample}
 use Rattle.demands.specs.DeskSamples.{DeskSamplesHold, DeskMapSamplesHold}
 use Rattle.demands.specs.Samples.{SamplesHold}
 use Rattle.demands.specs.LiteralSamples.{LiteralSamplesHold}
@@ -12,12 +17,7 @@ use Rattle.demands.specs.PlaceSamples.{PlaceSamplesHold}
 use Rattle.demands.specs.RemovalSamples.{RemovalSamplesHold}
 use Rattle.demands.specs.MapSamples.{MapSamplesHold}
 use Rattle.demands.specs.DamageSamples.{DamageSamplesHold}
-use Rattle.demands_origins.specs.Demand1 as origins
-use Rattle.demands_origins.specs.Demand3 as origins-runs
-use Rattle.demands_origins.specs.PlainKinds.{PlainNumbers, PlainAccepted, AuditPlain}
-use Rattle.demands_origins.specs.Alters.{RecordStores, FreeZeroesCells, RemoveZeroesCells, ClearZeroesCells, CounterLeft, CellsLeft, ShadowsLeft, CellLengthsKept, PointRefers, CopyRefers, LiveTold}
-use Rattle.demands_origins.specs.Demand3.{StaysCarried, ReachedCarries, CellsHold}
-use Rattle.demands_origins.specs.Judged.{HistoryEachCall, JudgedByHistory, CounterCounts}
+use Rattle.demands_origins.specs.Judged.{CounterCounts}
 use Rattle.demands_origins.specs.Samples as origins-samples
 use Rattle.calls_format.specs.Running.{SameRun, NeverDamaged}
 use Rattle.calls_format.specs.NewMapSamples.{NewMapSamplesHold}
@@ -31,63 +31,31 @@ use Rattle.calls_origins_format.specs.Program.{originsProgram}
 use Rattle.promises.specs.Demands.{Demands}
 
 pub record Promises : Type 0 where
-  -- ---- the three demands, and what S-1, S-2, S-5, S-6, S-7 and S-8 add (Demands.antt)
-
-  -- S-8: for any number width of four bytes or more and any segment of at least twice that, under every map
+  -- ---- the three demands (specification, Votes.antt): of the player, whose readings look at nine bytes at most, and of the desk (S-8), at seventeen
+  pub player-first : (m : Map) → FirstVote player m
+  pub player-second : (m : Map) → SecondVote 9 playerLooks player m
+  pub player-third : (m : Map) → ThirdVote player m
+  pub desk-first : (m : Map) → FirstVote desk m
+  pub desk-second : (m : Map) → SecondVote 17 deskLooks desk m
+  pub desk-third : (m : Map) → ThirdVote desk m
+  -- S-8: for any number width of four bytes or more and any segment of at least twice that, over the generic definitions (Demands.antt)
   pub every-form : (m : FormMap) → Demands m
-  -- the player: numbers of four bytes, segments of 8
-  pub player-form : (m : Map) → Demands (player m)
-  -- the desk: numbers of eight bytes, segments of 16
-  pub desk-form : (m : Map) → Demands (desk m)
-  -- readings rest on nine bytes at most, and on seventeen (Demand2.antt)
-  pub nine-bytes : (m : Map) → NineBytes m
-  pub seventeen-bytes : (m : Map) → SeventeenBytes m
-  -- ---- S-4: the form with origins (crates/demands_origins/specs). Its call is on block shadows, cells and counter
-
-  -- demand 1, of every call on every input: a refusal has zero fields and alters no byte of shadows and cells, and not the counter; the number is
-  -- that of the first row of the table that holds; accepted exactly if none does; the lowest wins, but 8 before 7 and 15 before both (Demand1.antt,
-  -- Numbers.antt)
-  pub origins-refused-alters-nothing : origins.RefusedAltersNothing
-  pub origins-by-the-table : origins.ByTheTable
-  pub origins-accepted-exactly : origins.AcceptedExactly
-  pub origins-lowest-wins : origins.LowestWins
-  pub origins-its-row-holds : origins.ItsRowHolds
-  -- the calls of the plain form are as there but for 2 of the cells' lengths, 5 and 12; where accepted, fields and block shadows are its; image and
-  -- audit are its, over the three block shadows alone (PlainKinds.antt)
-  pub plain-numbers : PlainNumbers
-  pub plain-accepted : PlainAccepted
-  pub audit-plain : AuditPlain
-  -- what each call alters of cells and counter, byte by byte, on any bytes, and what kind 13 answers there (Alters.antt)
-  pub record-stores : RecordStores
-  pub free-zeroes-cells : FreeZeroesCells
-  pub remove-zeroes-cells : RemoveZeroesCells
-  pub clear-zeroes-cells : ClearZeroesCells
-  pub counter-left : CounterLeft
-  pub cells-left : CellsLeft
-  pub shadows-left : ShadowsLeft
-  pub cell-lengths-kept : CellLengthsKept
-  pub point-refers : PointRefers
-  pub copy-refers : CopyRefers
-  pub live-told : LiveTold
-  -- demand 3: from cleared shadows, zero cells and counter 1, the number, every field and, after each call, every shadow byte, every byte of the
-  -- cells and the counter are those of the plain list of this form; 8 is never given (Demand3.antt)
-  pub origins-runs-each-call : origins-runs.RunsEachCall
-  pub origins-whole-run : origins-runs.WholeRun
-  pub origins-no-damage : origins-runs.NoDamage
-  -- the same of every list that carries what it should, which every call keeps; and after clear, from any bytes of the right lengths and any
-  -- counter from 1 to 4,294,967,296
-  pub origins-on-every-image : origins-runs.OnEveryImage
-  pub stays-carried : StaysCarried
-  pub origins-cleared-run : origins-runs.ClearedRun
-  pub reached-carries : ReachedCarries
-  -- with the two before: the cells hold exactly a live block's origin at its base's cell, a set pointer's referent at its own, zero elsewhere
-  pub cells-hold : CellsHold
-  -- kind 13 is judged by the history of calls, for runs of any length (Judged.antt)
-  pub history-each-call : HistoryEachCall
-  pub judged-by-history : JudgedByHistory
-  -- and so is 12: the counter goes up by one for each accepted recording
+  -- ---- what the requests promise of their own (specification, Requests.antt)
+  pub player-written : (m : Map) → WrittenFromStart player m
+  pub player-null : (m : Map) → FreeOfNull player m
+  pub player-literals : (m : Map) → Literals player m
+  pub player-places : (m : Map) → Places player m
+  pub player-removals : (m : Map) → Removals player m
+  pub desk-written : (m : Map) → WrittenFromStart desk m
+  pub desk-null : (m : Map) → FreeOfNull desk m
+  pub desk-literals : (m : Map) → Literals desk m
+  pub desk-places : (m : Map) → Places desk m
+  pub desk-removals : (m : Map) → Removals desk m
+  -- ---- S-4: the form with origins (specification_origins, Votes.antt)
+  pub origins-first : (m : Map) → origins.FirstVote m
+  pub origins-third : (m : Map) → origins.ThirdVote m
+  -- the counter goes up by one for each accepted recording; samples: the first counter, the bytes of a number, numbers at their edges, runs
   pub counter-counts : CounterCounts
-  -- samples: the first counter, the bytes of a number, numbers at their edges, runs (Samples.antt)
   pub origins-samples-hold : origins-samples.SamplesHold
   -- ---- samples (Samples.antt, LiteralSamples.antt, PlaceSamples.antt, RemovalSamples.antt, MapSamples.antt, DamageSamples.antt, ByteSamples.antt)
 
@@ -105,8 +73,6 @@ pub record Promises : Type 0 where
   pub damage-samples-hold : DamageSamplesHold
   -- ---- S-8: the desk (Desk.antt, DeskSamples.antt)
 
-  -- header and segments of a recorded block, in numbers of eight bytes and segments of 16, on any shadows
-  pub desk-stores : DeskStores
   -- the example of source 000, on any shadows and under any map that hold it
   pub desk-example : DeskExample
   -- header and bits byte for byte, whole segments, 4 and 5, damage by each byte of a number, marks over both bytes of bits, every call
