@@ -1,72 +1,48 @@
 -- What the calls that write alter, proved: see specs/Alters.antt for what each says. Assumes nothing.
 use mathlib.Core.Path.{_≡_, refl, sym, ap, _∙_}
-use mathlib.Core.Bool.{true, false, cond, true≢false}
+use mathlib.Core.Bool.{true, false, cond}
 use mathlib.Core.List.{List, [], _∷_}
-use Prim.Native.Nat.{ℕ, zero, suc, _+_, _*_, _-_, _≤_, _<_}
+use Prim.Native.Nat.{ℕ, zero, suc, _+_, _*_, _-_, _≤_}
 use native.Mathlib.Omega.{arith}
 use lib.ListN.{length, length-set, length-replicate, List·getD-eq-default}
-use borrow.Author.Tests.{not-false, eqb-false}
+use borrow.Author.Tests.{not-false}
 use Rattle.number.specs.Parts.{at, tab}
 use Rattle.number.proofs.TestLaws.{Test, is-true, is-false, test, cond-true}
 use Rattle.number.proofs.PartLaws.{length-over, at-tab-out}
 use Rattle.map.specs.FormMap.{FormMap}
 use Rattle.map.specs.Map.{goodMap}
-use Rattle.map.proofs.MapLaws.{Good, good-true, within-true, true-within, number-holds}
+use Rattle.map.proofs.MapLaws.{Good, good-true, number-holds}
 use Rattle.types.specs.declared.Beginning.{Beginning}
 use Rattle.plain.specs.Block.{Block, len, startsWritten, begun}
 use Rattle.plain.specs.Rules.{Placed}
 use Rattle.plain.specs.Areas.{segments, placeLength, heapRules, stackRules, mapRules}
-use Rattle.plain.specs.Reading.{Reading, nothing, block, damaged}
-use Rattle.plain.specs.Lift.{readingUp, down}
+use Rattle.plain.specs.Lift.{down}
 use Rattle.plain.specs.Join.{only}
 use Rattle.plain.specs.Ops.{markRange, readAny}
 use Rattle.plain.specs.Call.{Call, clear, begin, free, remove, written, ask, valid, initialised, next, audit, place, firstOf, unless}
 use Rattle.plain.specs.ShadowCalls.{lengthOf, inOne, shadowsAfter, shadowAnswer}
-use Rattle.heap_layout.specs.Reading.{heapReading}
 use Rattle.plain.proofs.AreaLaws.{heap-shifted, stack-shifted}
-use Rattle.plain.proofs.JoinLaws.{true-or}
 use Rattle.plain.proofs.KeptLaws.{base-inside}
 use Rattle.plain.proofs.StampedLaws.{Stands}
 use Rattle.heap_layout.specs.Image.{heapByte, heapImage}
 use Rattle.heap_layout.specs.Ops.{heapStamp, heapErase, heapMark}
 use Rattle.heap_layout.proofs.SegmentLaws.{Sizes}
 use Rattle.heap_layout.proofs.StampLaws as heap
-use Rattle.stack_layout.specs.Reading.{stackReading}
 use Rattle.stack_layout.specs.Image.{primaryOwn, secondaryOwn, byBlock, primaryByte, secondaryByte, stackImage}
 use Rattle.stack_layout.specs.Ops.{stackStamp, stackErase, stackMark}
 use Rattle.stack_layout.proofs.ImageLaws as stack
 use Rattle.shadows.specs.Shadows.{Shadows, Place, heap, primary, secondary, byteAt, lengthsFit, shadowOps, image}
 use Rattle.shadows.proofs.ShadowLaws.{Fit, fit-true, map-sound}
 use Rattle.monitor_base.specs.Calls.{refusals, call}
-use Rattle.monitor_base.proofs.LocatingLaws.{heap-room, stack-room}
 use Rattle.demands.specs.Addresses.{inHeap, inStack, outside, readingAt}
 use Rattle.demands.specs.Demand1.{numberOf}
-use Rattle.demands.specs.Alters.{inPlace, RecordStamps, FreeZeroes, WrittenMarks, LengthsKept}
-use Rattle.demands.proofs.Numbers.{number-first, outside-words, reading-words}
+use Rattle.demands.specs.Alters.{inPlace, RecordStamps, LengthsKept}
+use Rattle.demands.proofs.Numbers.{number-first}
 use Rattle.demands.proofs.Demand1.{accepted-exactly}
 use Rattle.demands.proofs.Begun as begun
 use Rattle.demands.proofs.OverLaws.{at-written}
-use Rattle.demands.proofs.MarkLaws.{range-rest, range-out, range-in}
 
 -- ---- free
-
-erased : (m : FormMap) (s : Shadows) (x l : ℕ) (q : Place) → byteAt (shadowOps m .erase s x l) q ≡ cond (inPlace m x l q) 0 (byteAt s q)
-unfolding heapErase placeLength stackErase
-erased m s x l q = go q (test (inHeap m x))
-  where
-    go : (q : Place) → Test (inHeap m x) → byteAt (shadowOps m .erase s x l) q ≡ cond (inPlace m x l q) 0 (byteAt s q)
-    go (heap q) (is-true t) = rw t (at-written (x - m .«heap_start» - m .segment) (m .segment + segments (m .segment) l * m .segment) (λ i. 0) (s .0) (λ i k r. refl) q)
-    go (heap q) (is-false t) = rw t
-    go (primary q) (is-true t) = rw t
-    go (primary q) (is-false t) = rw t (at-written (x - m .«stack_start») l (λ i. 0) (s .1 .0) (λ i k r. refl) q)
-    go (secondary q) (is-true t) = rw t
-    go (secondary q) (is-false t) = rw t (at-written (x - m .«stack_start») l (λ i. 0) (s .1 .1) (λ i k r. refl) q)
-
-pub free-zeroes : (m : FormMap) → FreeZeroes m
-unfolding call
-free-zeroes m x s e q =
-    let z : firstOf (refusals m (free (suc x)) s) ≡ 0 = sym (number-first m (free (suc x)) s) ∙ e in
-    rw (z, reading-words m s (suc x)) (erased m s (suc x) (lengthOf (readingAt m s (suc x))) q)
 
 -- ---- record
 
@@ -156,58 +132,6 @@ module _ (m : FormMap) (a n : ℕ) (s : Shadows) (e : numberOf m (written a n) s
     some : 1 ≤ n
     inside : outside m a ≡ false
     whole : inOne n (readingAt m s a) ≡ true
-
-  accepted : Accepted
-  accepted =
-      let h = accepted-exactly m (written a n) s .1 e in
-      record {
-        good = not-false (goodMap m) (h .0);
-        fit = fit-true m s (not-false (lengthsFit m s) (h .1 .0));
-        some = omega (arith, eqb-false n 0 (h .1 .1 .0));
-        inside = h .1 .1 .1 .0;
-        whole = not-false (inOne n (readingAt m s a)) (h .1 .1 .1 .1 .1 .1 .1 .1 .0);
-      }
-
-  -- the range lies in the area of its first address
-  all : (y : ℕ) → a ≤ y → y < a + n → mapRules m .inside y ≡ true
-  all y p q = go (test (inHeap m a)) (test (inStack m a))
-    where
-      up : (z : ℕ) (r : Reading) → inOne n (readingUp z r) ≡ true → inOne n r ≡ true
-      up z nothing i = i
-      up z (block b l o w t) i = i
-      up z damaged i = i
-
-      go : Test (inHeap m a) → Test (inStack m a) → mapRules m .inside y ≡ true
-      go (is-true h) k =
-          let u = within-true (m .«heap_start») (m .«heap_size») a h in
-          let r = heap-room (m .width) (m .segment) (m .«heap_size») (at (s .0)) (a - m .«heap_start») n
-          (up (m .«heap_start») (heapReading (m .width) (m .segment) (m .«heap_size») (at (s .0)) (a - m .«heap_start»)) (rw h at (accepted .whole))) in
-          rw (true-within (m .«heap_start») (m .«heap_size») y (omega arith) (omega arith))
-      go (is-false h) (is-true k) =
-          let u = within-true (m .«stack_start») (m .«stack_size») a k in
-          let r = stack-room (m .«stack_size») (at (s .1 .0)) (at (s .1 .1)) (a - m .«stack_start») n
-          (up (m .«stack_start») (stackReading (m .«stack_size») (at (s .1 .0)) (at (s .1 .1)) (a - m .«stack_start»)) (rw (h, k) at (accepted .whole))) in
-          true-or (inHeap m y) (inStack m y) (true-within (m .«stack_start») (m .«stack_size») y (omega arith) (omega arith))
-      go (is-false h) (is-false k) = absurd (true≢false (rw (h, k) at (accepted .inside)))
-
-  after : (call m (written a n) s) .0 ≡ markRange (shadowOps m) s a n
-  unfolding call
-  after = let z : firstOf (refusals m (written a n) s) ≡ 0 = sym (number-first m (written a n) s) ∙ e in rw z
-
-  inside-of : (x : ℕ) → outside m x ≡ false → mapRules m .inside x ≡ true
-  inside-of x o = not-false (mapRules m .inside x) (outside-words m x ∙ o)
-
-pub written-marks : (m : FormMap) → WrittenMarks m
-written-marks m a n s e =
-    let A = accepted m a n s e in
-    let r = range-rest m n a s in
-    rw (after m a n s e) (
-      λ x p q. range-in m (A .good) n a s (A .fit) (all m a n s e) x p q,
-      λ x o w. range-out m (A .good) n a s (A .fit) (all m a n s e) x (inside-of m a n s e x o) w,
-      r .heap-same,
-      r .primary-same,
-      r .secondary-same,
-    )
 
 -- ---- lengths
 

@@ -1,36 +1,30 @@
 -- The ways to record, proved: see specs/Begun.antt for what each says. Assumes nothing.
 use mathlib.Core.Path.{_≡_, refl, sym, _∙_}
 use mathlib.Core.Bool.{true, false, not, _&&_}
-use mathlib.Core.List.{List, _++_}
 use Prim.Native.Nat.{ℕ, zero, suc, _-_, _≤_}
 use native.Mathlib.Omega.{arith}
 use lib.ListN.{length-replicate}
 use borrow.Author.Tests.{not-false, eqb-false, ne-eqb}
-use Rattle.number.specs.Bits.{bit}
 use Rattle.number.proofs.TestLaws.{and-true}
 use Rattle.map.specs.FormMap.{FormMap}
 use Rattle.map.specs.Map.{goodMap}
 use Rattle.types.specs.declared.Beginning.{Beginning}
-use Rattle.types.specs.declared.Beginning.the-variants.{Unwritten, Written, Literal}
-use Rattle.plain.specs.Block.{Block, startsWritten, startsLiteral, begun}
-use Rattle.plain.specs.Blocks.{insert}
+use Rattle.types.specs.declared.Beginning.the-variants.{Unwritten, Written}
+use Rattle.plain.specs.Block.{startsWritten, startsLiteral, begun}
 use Rattle.plain.specs.Rules.{Proper}
 use Rattle.plain.specs.Areas.{mapRules}
 use Rattle.plain.specs.Reading.{Reading, nothing, block, damaged}
-use Rattle.plain.specs.PlainList.{byList, plainStep}
 use Rattle.plain.specs.Ops.{readAny}
-use Rattle.plain.specs.Call.{begin, record-block, record-written, written, number, done, firstOf, unless, allows, byRules}
+use Rattle.plain.specs.Call.{begin, record-block, record-written, written, number, done, firstOf, unless, allows}
 use Rattle.plain.specs.ShadowCalls.{inOne, isDamaged, isLiteral, shadowStep}
 use Rattle.plain.proofs.KeptLaws.{base-inside}
-use Rattle.plain.proofs.BegunLaws.{begin-written, begin-ask, begin-valid}
 use Rattle.plain.proofs.RunLaws.{begun-proper}
-use Rattle.plain.proofs.RunLaws as list
 use Rattle.plain.proofs.StampedLaws.{Stands, begin-marked}
 use Rattle.shadows.specs.Shadows.{Shadows, lengthsFit, shadowOps}
 use Rattle.shadows.proofs.ShadowLaws.{Fit, fit-true, true-fit, map-sound, shadow-stamped}
 use Rattle.monitor_base.specs.Calls.{refusals, call}
 use Rattle.monitor_base.proofs.CallLaws.{call-step}
-use Rattle.demands.specs.Begun.{AnswersOfRecord, RecordThenWritten, ListThenWritten, Starts, ListStarts}
+use Rattle.demands.specs.Begun.{AnswersOfRecord, RecordThenWritten}
 use Rattle.demands.proofs.Numbers.{number-first, misplaced-words, unaligned-words}
 use Rattle.demands.proofs.Demand1.{accepted-exactly}
 
@@ -125,20 +119,3 @@ module _ (m : FormMap) (b l : ℕ) (s : Shadows) (e : number ((call m (record-bl
 
 pub record-then-written : (m : FormMap) → RecordThenWritten m
 record-then-written m b l s e = written-after m b l s e
-
-joined : (m : FormMap) (bs : List Block) (b l : ℕ) → number ((plainStep (mapRules m) (record-block b l) bs) .1) ≡ 0
-    → (plainStep (mapRules m) (record-written b l) bs) .0 ≡ insert (begun Written b l) bs
-unfolding plainStep
-joined m bs b l e =
-    let z : firstOf (byRules (mapRules m) (record-block b l) ++ byList (mapRules m) (record-block b l) bs) ≡ 0 =
-    sym (list.number-first (mapRules m) (record-block b l) bs) ∙ e in
-    rw z
-
-pub list-then-written : (m : FormMap) → ListThenWritten m
-list-then-written m ok bs P b l e = begin-written (mapRules m) (map-sound m ok) Unwritten refl b l bs P e ∙ rw (joined m bs b l e)
-
-pub list-starts : (m : FormMap) → ListStarts m
-list-starts m ok bs P b l x p q = (λ e. starts Unwritten e, λ e. starts Written e, λ e. starts Literal e)
-  where
-    starts : (h : Beginning) → Starts m bs (begin h b l) b l x (bit (startsWritten h)) (bit (not (startsLiteral h)))
-    starts h e = (begin-ask (mapRules m) (map-sound m ok) h b l bs P e x p q, begin-valid (mapRules m) (map-sound m ok) h b l bs P e x p q)

@@ -8,8 +8,7 @@ use native.Mathlib.Omega.{arith}
 use borrow.Author.Tests.{le-leb, eq-eqb, not-true, not-false}
 use Rattle.number.specs.Bits.{bit}
 use Rattle.number.proofs.TestLaws.{Test, is-true, is-false, test}
-use Rattle.map.specs.declared.Map.{Map}
-use Rattle.map.specs.FormMap.{FormMap, player, desk}
+use Rattle.map.specs.FormMap.{FormMap}
 use Rattle.map.specs.Map.{goodMap}
 use Rattle.map.proofs.MapLaws.{good-true, within-true}
 use Rattle.plain.specs.Areas.{mapRules}
@@ -34,7 +33,7 @@ use Rattle.shadows.proofs.ByteLaws.{image-bytes}
 use Rattle.monitor_base.specs.Calls.{refusals, call}
 use Rattle.monitor_base.proofs.CallLaws.{call-step}
 use Rattle.demands.specs.Addresses.{inHeap, inStack, outside, endOfAreas, readingAt}
-use Rattle.demands.specs.Demand2.{asked, blockTold, toldAt, listTold, totalsOf, AskReads, FewBytes, NineBytes, SeventeenBytes, ImageShape, OneImage, AuditAccepts, AuditOnly, AuditRefuses, ReadBack, MadeOf}
+use Rattle.demands.specs.Demand2.{asked, blockTold, toldAt, totalsOf, AskReads, FewBytes, ImageShape, OneImage, AuditAccepts, AuditOnly, AuditRefuses, ReadBack}
 use Rattle.demands.proofs.Demand1.{accepted-exactly}
 use Rattle.demands.proofs.Demand3.{on-every-image}
 use Rattle.demands.proofs.Numbers.{outside-words, reading-words}
@@ -68,12 +67,6 @@ few-bytes m s a =
     answers : (t : Shadows) → readAny (mapRules m) (shadowOps m) t a ≡ readAny (mapRules m) (shadowOps m) s a → lengthsFit m t ≡ lengthsFit m s
         → (call m (ask a) t) .1 ≡ (call m (ask a) s) .1
     answers t e f = rw (e, f) (same (firstOf (refusals m (ask a) s)) t s (askAnswer (readAny (mapRules m) (shadowOps m) s a)))
-
-pub nine-bytes : (m : Map) → NineBytes m
-nine-bytes m = few-bytes (player m)
-
-pub seventeen-bytes : (m : Map) → SeventeenBytes m
-seventeen-bytes m = few-bytes (desk m)
 
 -- ---- images
 
@@ -194,10 +187,3 @@ image-told m ok bs P a =
 pub read-back : (m : FormMap) → ReadBack m
 read-back m ok bs P =
     ap (λ (rd : ℕ → Reading). collect rd 0 (endOfAreas m)) (fun-ext (image-told m ok bs P)) ∙ collect-lookup (mapRules m) (map-sound m ok) bs P
-
-pub made-of : (m : FormMap) → MadeOf m
-made-of m s e =
-    let r = audit-only m s e in
-    let bs : List Block = r .1 .0 in
-    let q : listTold m s ≡ bs = ap (listTold m) (r .1 .2) ∙ read-back m (r .0) bs (r .1 .1) in
-    rw q (r .1 .1, sym (r .1 .2), r .1 .3)

@@ -1,5 +1,5 @@
 -- Demand 3, proved: see specs/Demand3.antt for what each says. Assumes nothing.
-use mathlib.Core.Path.{_≡_, refl, sym, ap, _∙_}
+use mathlib.Core.Path.{_≡_, sym, ap, _∙_}
 use mathlib.Core.Logic.{_≢_}
 use mathlib.Core.List.{List, [], _∷_}
 use Rattle.map.specs.FormMap.{FormMap}
@@ -15,15 +15,11 @@ use Rattle.shadows.specs.Shadows.{Shadows, shadowOps, zeroShadows, image}
 use Rattle.shadows.proofs.ShadowLaws.{image-fits, map-sound, shadow-images}
 use Rattle.monitor_base.specs.Calls.{call}
 use Rattle.monitor_base.proofs.CallLaws.{call-step}
-use Rattle.demands.specs.Demand3.{shadowRun, RunsEachCall, WholeRun, NoDamage, ClearedRun, OnEveryImage, StaysPlaced}
+use Rattle.demands.specs.Demand3.{shadowRun, WholeRun, NoDamage, ClearedRun, OnEveryImage, StaysPlaced}
 
 pub on-every-image : (m : FormMap) → OnEveryImage m
 on-every-image m ok bs P c =
     call-step m c (image m bs) ok (image-fits m bs) ∙ step-same (mapRules m) (map-sound m ok) (shadowOps m) (image m) (shadow-images m ok) bs P c
-
-pub runs-each-call : (m : FormMap) → RunsEachCall m
-unfolding run
-runs-each-call m c cs = (λ s. refl, λ bs. refl)
 
 pub whole-run : (m : FormMap) → WholeRun m
 whole-run m ok cs =

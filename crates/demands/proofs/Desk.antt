@@ -1,13 +1,12 @@
 -- What the sizes of a form come to, and the desk's: see specs/Desk.antt for what each says. Assumes nothing.
-use mathlib.Core.Path.{_≡_, refl, sym, ap, _∙_}
-use mathlib.Core.Logic.{_≢_}
+use mathlib.Core.Path.{_≡_, sym, ap, _∙_}
 use mathlib.Core.Bool.{true, false, cond}
 use Prim.Native.Nat.{ℕ, _+_, _*_, _-_, _/_, _%_, _≤_, _<_}
 use native.Mathlib.Omega.{arith}
 use native.Mathlib.Nat.{div-add-mod', mod-lt, mul-mod-left, div-eq-of-lt-le, div-lt-iff-lt-mul, le-div-iff-mul-le}
 use lib.ListN.{length-replicate}
-use lib.Dec.{leb, ltb, eqb}
-use borrow.Author.Tests.{lt-ltb, ne-eqb, eqb-true, leb-false}
+use lib.Dec.{leb}
+use borrow.Author.Tests.{eqb-true, leb-false}
 use Rattle.number.specs.Little.{word}
 use Rattle.number.specs.Parts.{at}
 use Rattle.number.proofs.TestLaws.{Test, is-true, is-false, test}
@@ -20,7 +19,7 @@ use Rattle.plain.specs.Areas.{segments, heapRules}
 use Rattle.plain.specs.Block.{len, startsWritten, begun}
 use Rattle.plain.specs.Call.{begin, record-block, ask, Answer, answer}
 use Rattle.plain.specs.Lift.{readingUp, down}
-use Rattle.plain.specs.Reading.{Reading, nothing, block, damaged}
+use Rattle.plain.specs.Reading.{Reading, nothing, block}
 use Rattle.plain.proofs.AreaLaws.{heap-span}
 use Rattle.plain.proofs.StampedLaws as plain
 use Rattle.heap_layout.specs.Reading.{heapReading, writtenBit}
@@ -31,35 +30,20 @@ use Rattle.heap_layout.proofs.StampedLaws.{ends, stamped-header, stamped-length
 use Rattle.shadows.specs.Shadows.{Shadows, shadowOps, lengthsFit}
 use Rattle.shadows.proofs.ShadowLaws.{true-fit, shadow-stamped}
 use Rattle.monitor_base.specs.Calls.{call}
-use Rattle.demands.specs.Addresses.{inHeap, readingAt}
+use Rattle.demands.specs.Addresses.{inHeap}
 use Rattle.demands.specs.Demand1.{numberOf}
 use Rattle.demands.specs.Demand2.{asked}
-use Rattle.demands.specs.Desk.{segmentAt, numberAt, lengthAt, NumbersRead, HugeDamaged, StackAsBefore, RecordedRead, DeskStores, DeskExample}
+use Rattle.demands.specs.Desk.{segmentAt, RecordedRead, DeskExample}
 use Rattle.demands.proofs.Alters.{heap-placed}
 use Rattle.demands.proofs.Begun as begun
 use Rattle.demands.proofs.Demand2.{ask-reads}
-use Rattle.demands.proofs.Readings.{lowered}
 use Rattle.demands.proofs.Starts.{bytes-start}
-
-pub numbers-read : (m : FormMap) → NumbersRead m
-numbers-read m s a b l o w t h e =
-    let p : ℕ = a - m .«heap_start» in
-    let r = lowered (m .«heap_start») b l o w t (heapReading (m .width) (m .segment) (m .«heap_size») (at (s .0)) p) (rw h at e) in
-    let T = heap.reading-told (m .width) (m .segment) (m .«heap_size») (at (s .0)) p (r .0) l o w t (r .1) in
-    let c : b - m .«heap_start» ≡ r .0 = omega (arith, r .2) in
-    rw c (T .aligned, T .number, T .long)
 
 -- ---- numbers of 2 to the 32 or more
 
 module _ (m : FormMap) (ok : goodMap m ≡ true) (s : Shadows) (a : ℕ) (h : inHeap m a ≡ true) where
-  abbrev W : ℕ
-  W = m .width
-
   abbrev G : ℕ
   G = m .segment
-
-  abbrev w : ℕ
-  w = numberAt m s a
 
   abbrev g : ℕ
   g = segmentAt m a
@@ -68,33 +52,6 @@ module _ (m : FormMap) (ok : goodMap m ≡ true) (s : Shadows) (a : ℕ) (h : in
   small =
       let u = within-true (m .«heap_start») (m .«heap_size») a h in
       omega (arith, div-add-mod' (a - m .«heap_start») G, good-true m ok .heapMost)
-
-  huge-number : 4294967296 ≤ w → readingAt m s a ≡ damaged
-  unfolding heapReading
-  huge-number x = go (test (eqb ((w - 1) % G) 0))
-    where
-      go : Test (eqb ((w - 1) % G) 0) → readingAt m s a ≡ damaged
-      go (is-false t) = rw (h, ne-eqb w 0 (λ e. omega arith), t)
-      go (is-true t) = rw (h, ne-eqb w 0 (λ e. omega arith), t, lt-ltb g (w - 1 + G) (omega (arith, small)))
-
-  huge-length : w ≢ 0 → 4294967296 ≤ lengthAt m s (g - (w - 1)) → readingAt m s a ≡ damaged
-  unfolding heapReading
-  huge-length n x = go (test (eqb ((w - 1) % G) 0)) (test (ltb g (w - 1 + G)))
-    where
-      L : ℕ
-      L = lengthAt m s (g - (w - 1))
-
-      go : Test (eqb ((w - 1) % G) 0) → Test (ltb g (w - 1 + G)) → readingAt m s a ≡ damaged
-      go (is-false t) v = rw (h, ne-eqb w 0 n, t)
-      go (is-true t) (is-true v) = rw (h, ne-eqb w 0 n, t, v)
-      go (is-true t) (is-false v) =
-          rw (h, ne-eqb w 0 n, t, v, ne-eqb L 0 (λ e. omega arith), lt-ltb (m .«heap_size») (g - (w - 1) + L) (omega (arith, good-true m ok .heapMost)))
-
-pub huge-damaged : (m : FormMap) → HugeDamaged m
-huge-damaged m ok s a h = (huge-number m ok s a h, huge-length m ok s a h)
-
-pub stack-as-before : (m : FormMap) → StackAsBefore m
-stack-as-before m = (λ s a h. rw h, λ bs. refl)
 
 -- ---- a heap block right after it is recorded, on any shadows
 
@@ -212,12 +169,6 @@ pub recorded-read : (m : FormMap) → RecordedRead m
 recorded-read m s b l e i = (λ x lo hi. in-segments m b l s e i x lo hi, λ x lo hi. in-header m b l s e i x lo hi)
 
 -- ---- the desk
-
-pub desk-stores : DeskStores
-desk-stores m h b l s e i =
-    let p : ℕ = b - m .«heap_start» in
-    let q : p - 16 + 8 ≡ p - 8 = omega (arith, room (desk m) h b l s e i .1) in
-    (after-header (desk m) h b l s e i, rw q at (after-length (desk m) h b l s e i), after-number (desk m) h b l s e i)
 
 pub desk-example : DeskExample
 unfolding segments

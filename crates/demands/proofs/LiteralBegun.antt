@@ -1,13 +1,12 @@
 -- How a literal begins, proved: see `LiteralAnswers`, `LiteralBytes` and `LiteralElsewhere` of specs/Literals.antt. Assumes nothing.
 use mathlib.Core.Path.{_≡_, refl, sym, ap, _∙_}
 use mathlib.Core.Logic.{_≢_}
-use mathlib.Core.Bool.{Bool, true, false, cond, not, _&&_, _||_, true≢false}
+use mathlib.Core.Bool.{true, false, cond, true≢false}
 use mathlib.Core.List.{[], _∷_}
 use mathlib.Core.Option.{some}
 use Prim.Native.Nat.{ℕ, zero, suc, _+_, _-_, _≤_, _<_}
 use native.Mathlib.Omega.{arith}
 use lib.ListN.{length-replicate, getD-replicate}
-use lib.Dec.{eqb}
 use Rattle.number.specs.Parts.{at, inPart}
 use Rattle.number.proofs.TestLaws.{Test, is-true, is-false, test, false-of, in-facts}
 use Rattle.map.specs.FormMap.{FormMap}
@@ -28,9 +27,7 @@ use Rattle.monitor_base.specs.Calls.{refusals, call}
 use Rattle.demands.specs.Addresses.{inHeap, inStack}
 use Rattle.demands.specs.Demand1.{numberOf}
 use Rattle.demands.specs.Alters.{inPlace}
-use Rattle.demands.specs.Literals.{LiteralAnswers, twoAt, LiteralBytes, LiteralElsewhere}
-use Rattle.demands.proofs.Numbers.{by-rows}
-use Rattle.demands.proofs.Demand1.{refused-alters-nothing}
+use Rattle.demands.specs.Literals.{LiteralAnswers, twoAt, LiteralBytes}
 use Rattle.demands.proofs.Begun as begun
 use Rattle.demands.proofs.Alters.{record-stamps}
 
@@ -111,16 +108,3 @@ module _ (m : FormMap) (b l : ℕ) (s : Shadows) (e : numberOf m (record-literal
 pub literal-bytes : (m : FormMap) → LiteralBytes m
 literal-bytes m b l s e q =
     rw (record-stamps m Literal b l s e q, record-stamps m Written b l s (e′ m b l s e) q) (bytes m b l s e q)
-
-pub literal-elsewhere : (m : FormMap) → LiteralElsewhere m
-literal-elsewhere m s ok fit b l n =
-    let k : numberOf m (record-literal b l) s ≡ cond (eqb l 0) 3 4 = by-rows m (record-literal b l) s ∙ rw (ok, fit, misplaced (inHeap m b) (inStack m b) n) in
-    refused-alters-nothing m (record-literal b l) s (λ z. some (eqb l 0) (sym k ∙ z)) ∙ rw k
-  where
-    misplaced : (h k : Bool) → k ≡ false → (h || (not h && not k)) ≡ true
-    misplaced true k e = refl
-    misplaced false k e = ap not e
-
-    some : (t : Bool) → _≡_ {A = ℕ} (cond t 3 4) 0 → ⊥
-    some true e = omega arith
-    some false e = omega arith

@@ -2,40 +2,35 @@
 -- Assumes nothing.
 use mathlib.Core.Path.{_≡_, refl, sym, ap, _∙_}
 use mathlib.Core.Logic.{_≢_}
-use mathlib.Core.Bool.{Bool, true, false, cond, not, _&&_, true≢false, false≢true}
+use mathlib.Core.Bool.{Bool, true, false, not, _&&_, true≢false, false≢true}
 use mathlib.Core.List.{List, _++_}
 use mathlib.Core.Option.{some}
 use Prim.Native.Nat.{ℕ, zero, suc, _+_, _-_, _≤_, _<_}
 use native.Mathlib.Omega.{arith}
-use lib.Dec.{leb, eqb}
 use borrow.Author.Tests.{ne-eqb, eqb-true, eqb-false}
 use Rattle.number.specs.Parts.{at, inPart}
-use Rattle.number.proofs.TestLaws.{Test, is-true, is-false, test, and-true, false-of, not-both, in-facts}
+use Rattle.number.proofs.TestLaws.{and-true, false-of, not-both, in-facts}
 use Rattle.map.specs.FormMap.{FormMap}
 use Rattle.map.specs.Map.{goodMap}
 use Rattle.plain.specs.Block.{Block, len, begun, contains, holds, hasBase}
 use Rattle.plain.specs.Blocks.{any, Has}
 use Rattle.plain.specs.Rules.{Placed}
 use Rattle.plain.specs.Areas.{mapRules}
-use Rattle.plain.specs.Reading.{nothing, block}
-use Rattle.plain.specs.Ops.{markRange, readAny}
-use Rattle.plain.specs.Call.{Call, clear, begin, free, remove, written, ask, valid, initialised, next, audit, place, answer, done, yesNo, firstOf, unless, byRules}
+use Rattle.plain.specs.Call.{Call, clear, begin, free, remove, written, ask, valid, initialised, next, audit, place, answer, yesNo, firstOf, unless, byRules}
 use Rattle.plain.specs.PlainList.{byList, listAfter, listAnswer, plainStep}
-use Rattle.plain.specs.ShadowCalls.{shadowStep}
 use Rattle.plain.proofs.BlockLaws.{contains-true, true-contains, holds-true, true-holds}
 use Rattle.plain.proofs.KeptLaws.{has-proper, base-inside}
 use Rattle.plain.proofs.LayerLaws.{listed}
 use Rattle.plain.proofs.RunLaws.{free-accepted}
 use Rattle.plain.proofs.HasLaws.{has-any, none-any, has-insert, has-remove, has-marks}
-use Rattle.shadows.specs.Shadows.{Shadows, image, Place, heap, primary, secondary, byteAt, shadowOps}
+use Rattle.shadows.specs.Shadows.{image, Place, heap, primary, secondary, byteAt}
 use Rattle.shadows.proofs.ShadowLaws.{map-sound}
 use Rattle.shadows.proofs.OwnLaws.{primary-own, secondary-own}
 use Rattle.monitor_base.specs.Calls.{call}
-use Rattle.monitor_base.proofs.CallLaws.{call-step}
 use Rattle.demands.specs.Addresses.{inHeap, inStack}
 use Rattle.demands.specs.Alters.{inPlace}
-use Rattle.demands.specs.Literals.{HeldBy, ReadExactly, WriteExactly, WrittenRefused, endsLiteral, LiteralStays}
-use Rattle.demands.proofs.Numbers.{reading-words, stack-words}
+use Rattle.demands.specs.Literals.{HeldBy, ReadExactly, WriteExactly, endsLiteral, LiteralStays}
+use Rattle.demands.proofs.Numbers.{stack-words}
 use Rattle.demands.proofs.Demand3.{on-every-image, stays-placed}
 
 -- ---- valid_read and valid
@@ -80,26 +75,6 @@ write-exactly m ok bs P a n from k = (
 )
 
 -- ---- written is refused
-
--- an address that is read as a block lies in an area
-block-inside : (m : FormMap) (s : Shadows) (a b l o w : ℕ) (t : Bool) → readAny (mapRules m) (shadowOps m) s a ≡ block b l o w t → mapRules m .inside a ≡ true
-unfolding readAny
-block-inside m s a b l o w t e = go (test (mapRules m .inside a))
-  where
-    go : Test (mapRules m .inside a) → mapRules m .inside a ≡ true
-    go (is-true i) = i
-    go (is-false i) = absurd (let z : nothing ≡ block b l o w t = rw i at e in let x : _≡_ {A = ℕ} 0 1 = cc in omega arith)
-
-pub written-refused : (m : FormMap) → WrittenRefused m
-unfolding shadowStep
-written-refused m s ok fit a n b l o w e =
-    let r : readAny (mapRules m) (shadowOps m) s a ≡ block b l o w true = reading-words m s a ∙ e in
-    call-step m (written a n) s ok fit ∙ rw (r, block-inside m s a b l o w true r) (go (eqb n 0) (leb (o + n) l))
-  where
-    go : (z t : Bool) → unless (cond z 3 (cond (not t) 7 13)) s (markRange (shadowOps m) s a n, done) ≡ (s, answer (cond z 3 (cond t 13 7)) 0 0 0 0)
-    go true t = refl
-    go false true = refl
-    go false false = refl
 
 -- ---- a literal stays
 

@@ -6,7 +6,6 @@ use Prim.Native.Nat.{ℕ, zero, suc, _+_, _-_, _%_}
 use native.Mathlib.Omega.{arith}
 use lib.Dec.{leb, eqb}
 use borrow.Author.Tests.{ne-eqb}
-use Rattle.number.specs.Bits.{bit}
 use Rattle.map.specs.FormMap.{FormMap}
 use Rattle.map.specs.Map.{goodMap}
 use Rattle.map.proofs.MapLaws.{good-true, within-true}
@@ -36,11 +35,6 @@ unfolding call
 number-first m c s = unless-number (firstOf (refusals m c s)) s _ (accepted-0 (mapRules m) (shadowOps m) c s)
 
 -- ---- what the map's rules and the readings are, in the table's words
-
--- "1 or 0"
-pub bit-words : (t : Bool) → bit t ≡ cond t 1 0
-bit-words true = refl
-bit-words false = refl
 
 neither : (h k : Bool) → not (h || k) ≡ (not h && not k)
 neither true k = refl

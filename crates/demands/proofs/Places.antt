@@ -27,18 +27,15 @@ use Rattle.heap_layout.proofs.SegmentLaws.{aligned-eq}
 use Rattle.shadows.specs.Shadows.{Shadows, lengthsFit, shadowOps}
 use Rattle.shadows.proofs.ShadowLaws.{shadow-images}
 use Rattle.monitor_base.specs.Calls.{call}
-use Rattle.demands.specs.Gaps.{heapSegments, isZero, beginsRun, runsBelow, gapsBelow, gapSize, isLooked, placeBytes}
+use Rattle.demands.specs.Gaps.{heapSegments, isZero, beginsRun, gapsBelow, gapSize, isLooked, placeBytes}
 use Rattle.demands.specs.Addresses.{inHeap}
 use Rattle.demands.specs.Numbers.{isMisplaced, placeZero}
 use Rattle.demands.specs.Demand1.{numberOf}
-use Rattle.demands.specs.Places.{ZeroFrom, IsGap, gapsAt, gapFrom, Fits, GapsExactly, GapsCounted, WholeSegments, PlaceChooses, PlaceRefused, surplusOf, LargerBudget, PlacedRecorded, OnItsOwnImage}
+use Rattle.demands.specs.Places.{ZeroFrom, IsGap, gapsAt, gapFrom, Fits, GapsExactly, PlaceChooses, surplusOf, LargerBudget, PlacedRecorded, OnItsOwnImage}
 use Rattle.demands.proofs.Demand1.{accepted-exactly}
 use Rattle.demands.proofs.GapRuns.{Longest, longest-begins, begins-longest}
-use Rattle.demands.proofs.GapLists.{count-listed, looked-count, ascending, below-begins, below-not}
-use Rattle.demands.proofs.GapWords.{gapAtSegment, gaps-words, looked-among, among-looked, room-words, whole-segments, holds-need, need-holds}
-
-pub whole-segments-hold : (m : FormMap) → WholeSegments m
-whole-segments-hold = whole-segments
+use Rattle.demands.proofs.GapLists.{looked-count, ascending}
+use Rattle.demands.proofs.GapWords.{gapAtSegment, gaps-words, looked-among, among-looked, room-words, holds-need, need-holds}
 
 -- ---- a gap, by its bytes and by its segments
 
@@ -103,16 +100,6 @@ gaps-exactly m s = (
       let r = among-looked m s (length (gapsAt m s)) g (subst (Among g) (sym (take-whole (gapsAt m s))) a) in
       (r .0, gapSize m s (r .0), looked-gap m s (length (gapsAt m s)) (r .0) (r .1) (r .2) .0, r .3),
   rw (gaps-words m s) (ascending (m .segment) (isZero m s) (m .«heap_start») (heapSegments m) (whole m s)),
-)
-
-pub gaps-counted : (m : FormMap) → GapsCounted m
-unfolding runsBelow
-gaps-counted m s = (
-  rw (gaps-words m s) (count-listed (m .segment) (isZero m s) (m .«heap_start») (heapSegments m)),
-  refl,
-  λ i n G. below-begins (m .segment) (isZero m s) (m .«heap_start») (heapSegments m) i (longest-begins (isZero m s) (heapSegments m) i n (gap-longest m s i n G) .0) ∙ omega arith,
-  λ i l h. below-not (m .segment) (isZero m s) (m .«heap_start») (heapSegments m) i
-      (false-of (beginsRun (isZero m s) i) (λ b. h (gapSize m s i) (longest-gap m s i (gapSize m s i) (begins-longest (isZero m s) (heapSegments m) i b l)))),
 )
 
 -- ---- an accepted place
@@ -197,21 +184,6 @@ place-chooses m s l k e =
     (r .0, r .1, r .2 .fits, r .2 .least, r .2 .says)
 
 -- ---- 14
-
-pub place-refused : (m : FormMap) → PlaceRefused m
-unfolding call
-place-refused m s ok fit l k n = (λ h. refuse h (best (placeLength (m .segment) l) (looked m s l k)) refl, λ i p F. accept i p F (best (placeLength (m .segment) l) (looked m s l k)) refl)
-  where
-    some-byte : l ≢ 0
-    some-byte = omega arith
-
-    refuse : ((i p : ℕ) → Fits m s l k i p → ⊥) → (o : Option Gap) → best (placeLength (m .segment) l) (looked m s l k) ≡ o → call m (place l k) s ≡ (s, answer 14 0 0 0 0)
-    refuse h none q = rw (ok, fit, ne-eqb l 0 some-byte, q)
-    refuse h (some g) q = let r = picked m s l k g (answers m s l k ok fit some-byte g q) in absurd (h (r .0) (r .1) (r .2 .fits))
-
-    accept : (i p : ℕ) → Fits m s l k i p → (o : Option Gap) → best (placeLength (m .segment) l) (looked m s l k) ≡ o → numberOf m (place l k) s ≡ 0
-    accept i p F none q = absurd (best-none (placeLength (m .segment) l) (looked m s l k) q (gapFrom m i p) (fits-among m s l k i p F) (holds-need m l p (F .holds)))
-    accept i p F (some g) q = ap (λ (r : Shadows × Answer). number (r .1)) (answers m s l k ok fit some-byte g q .says)
 
 -- ---- a larger budget
 

@@ -2,39 +2,33 @@
 use mathlib.Core.Path.{_≡_, refl, sym, ap, _∙_}
 use mathlib.Core.Logic.{_⊎_, inl, inr, ⊎-elim}
 use mathlib.Core.Bool.{Bool, true, false, not, _&&_, _||_, true≢false}
-use mathlib.Core.List.{List, [], _∷_, _++_}
+use mathlib.Core.List.{List, _++_}
 use mathlib.Core.Option.{Option, none, some}
-use Prim.Native.Nat.{ℕ, zero, suc, _+_, _*_, _-_}
-use borrow.Author.Tests.{eq-eqb, ne-eqb, eqb-true, not-false}
-use Rattle.number.specs.Parts.{over}
+use Prim.Native.Nat.{ℕ, zero, suc, _+_, _-_}
+use borrow.Author.Tests.{eq-eqb, eqb-true, not-false}
 use Rattle.number.proofs.TestLaws.{false-of, not-both}
-use Rattle.number.proofs.PartLaws.{length-over}
 use Rattle.map.specs.FormMap.{FormMap}
 use Rattle.map.specs.Map.{goodMap}
-use Rattle.plain.specs.Areas.{segments, placeLength, mapRules}
+use Rattle.plain.specs.Areas.{mapRules}
 use Rattle.plain.specs.Block.{Block, hasBase}
 use Rattle.plain.specs.Blocks.{find, found, any}
-use Rattle.plain.specs.Reading.{Reading}
 use Rattle.plain.specs.Rules.{Placed}
-use Rattle.plain.specs.Call.{Call, free, remove, Answer, number, done, firstOf, unless, isStack, byRules}
+use Rattle.plain.specs.Call.{Call, free, remove, Answer, number, firstOf, unless, isStack, byRules}
 use Rattle.plain.specs.PlainList.{byList, plainStep}
-use Rattle.plain.specs.ShadowCalls.{isDamaged, isFirst, lengthOf, shadowsAfter, shadowAnswer}
+use Rattle.plain.specs.ShadowCalls.{shadowsAfter, shadowAnswer}
 use Rattle.plain.proofs.HasLaws.{has-any}
 use Rattle.plain.proofs.JoinLaws.{true-or}
 use Rattle.plain.proofs.ListLaws.{find-has}
 use Rattle.plain.proofs.RunLaws as plain
-use Rattle.heap_layout.specs.Ops.{heapErase}
-use Rattle.stack_layout.specs.Ops.{stackErase}
 use Rattle.shadows.specs.Shadows.{Shadows, lengthsFit, shadowOps, image}
 use Rattle.monitor_base.specs.Calls.{refusals, call}
 use Rattle.monitor_base.proofs.LocatingLaws.{null-inside}
-use Rattle.demands.specs.Addresses.{inHeap, inStack, readingAt}
+use Rattle.demands.specs.Addresses.{inHeap, inStack}
 use Rattle.demands.specs.Demand1.{numberOf}
-use Rattle.demands.specs.Removals.{FreeOfStack, Zeroed, Refuses, FreeByReading, RemoveElsewhere, RemoveByReading, EachItsArea, BaseOf, FreeExactly, RemoveExactly}
-use Rattle.demands.proofs.Numbers.{number-first, apart-words, stack-words, reading-words}
+use Rattle.demands.specs.Removals.{FreeOfStack, RemoveElsewhere, EachItsArea, BaseOf, FreeExactly, RemoveExactly}
+use Rattle.demands.proofs.Numbers.{number-first, apart-words, stack-words}
 use Rattle.demands.proofs.Demand1.{accepted-exactly}
 use Rattle.demands.proofs.Demand3.{on-every-image}
-use Rattle.demands.proofs.OverLaws.{at-written}
 
 -- ---- what follows from arguments and map
 
@@ -56,49 +50,6 @@ remove-elsewhere m ok a i =
     (λ s fit. rw (ok, fit, k), λ bs. rw k)
 
 -- ---- by the reading
-
-module _ (m : FormMap) (s : Shadows) (ok : goodMap m ≡ true) (fit : lengthsFit m s ≡ true) (a : ℕ) where
-  abbrev by : Reading → Shadows × Answer
-  by r = unless (firstOf ((8, isDamaged r) ∷ (7, not (isFirst r)) ∷ [])) s (shadowOps m .erase s a (lengthOf r), done)
-
-  -- no area holds address 0
-  freed : inHeap m a ≡ true → call m (free a) s ≡ by (readingAt m s a)
-  unfolding call
-  freed h = go a refl
-    where
-      go : (x : ℕ) → a ≡ x → call m (free x) s ≡ by (readingAt m s a)
-      go zero z = let i : inHeap m 0 ≡ true = rw z at h in absurd (not-both (mapRules m .inside 0) (rw i) (null-inside m ok))
-      go (suc x) z =
-          let k : isStack (mapRules m) a ≡ false = stack-words m ok a ∙ false-of (inStack m a) (apart-words m ok a h) in
-          let i : mapRules m .inside a ≡ true = rw h in
-          rw (← z, ok, fit, k, i, reading-words m s a)
-
-  removed : inStack m a ≡ true → call m (remove a) s ≡ by (readingAt m s a)
-  unfolding call
-  removed i =
-      let k : isStack (mapRules m) a ≡ true = stack-words m ok a ∙ i in
-      rw (ok, fit, k, reading-words m s a)
-
-  refuses : (x : Shadows × Answer) → x ≡ by (readingAt m s a) → Refuses (readingAt m s a) s x
-  refuses x q = (λ e. q ∙ ap by e, λ e. q ∙ ap by e, λ b l o w t e n. q ∙ ap by e ∙ rw (ne-eqb o 0 n))
-
-  zeroed : (p l : ℕ) (h : List ℕ) → Zeroed p l h (over p l (λ q. 0) h)
-  zeroed p l h = (length-over p l (λ q. 0) h, at-written p l (λ q. 0) h (λ q x y. refl))
-
-pub free-by-reading : (m : FormMap) → FreeByReading m
-unfolding heapErase placeLength
-free-by-reading m s ok fit a h = (
-  refuses m s ok fit a _ (freed m s ok fit a h),
-  λ b l w t e. rw (freed m s ok fit a h ∙ ap (by m s ok fit a) e, h) (refl, zeroed m s ok fit a (a - m .«heap_start» - m .segment) (m .segment + segments (m .segment) l * m .segment) (s .0), refl),
-)
-
-pub remove-by-reading : (m : FormMap) → RemoveByReading m
-unfolding stackErase
-remove-by-reading m s ok fit a i = (
-  refuses m s ok fit a _ (removed m s ok fit a i),
-  λ b l w t e. rw (removed m s ok fit a i ∙ ap (by m s ok fit a) e, false-of (inHeap m a) (λ h. apart-words m ok a h i))
-      (refl, refl, zeroed m s ok fit a (a - m .«stack_start») l (s .1 .0), zeroed m s ok fit a (a - m .«stack_start») l (s .1 .1)),
-)
 
 -- ---- each in its area
 

@@ -7,12 +7,10 @@ use Prim.Native.Nat.{ℕ, _+_, _*_, _-_, _/_, _%_, _≤_, _<_}
 use native.Mathlib.Omega.{arith}
 use lib.ListN.{length-replicate, getD-replicate}
 use borrow.Author.Tests.{leb-true, eqb-true}
-use native.Mathlib.Nat.{mod-lt}
-use lib.Dec.{leb, lit<}
+use lib.Dec.{leb}
 use Rattle.number.specs.Bits.{bit, bitOf}
 use Rattle.number.specs.Parts.{at}
 use Rattle.number.proofs.TestLaws.{Test, is-true, is-false, test, and-true, in-true, false-of}
-use Rattle.number.proofs.BitLaws.{bit-test, bitOf-lt}
 use Rattle.map.specs.FormMap.{FormMap}
 use Rattle.map.proofs.MapLaws.{Good, good-true, within-true, true-within, segment-least}
 use Rattle.types.specs.declared.Beginning.{Beginning}
@@ -26,9 +24,7 @@ use Rattle.plain.specs.Reading.{says}
 use Rattle.plain.proofs.AreaLaws.{segments-up}
 use Rattle.plain.proofs.BlockLaws.{true-contains}
 use Rattle.plain.proofs.StampedLaws.{Stands}
-use Rattle.heap_layout.specs.Ops.{heapMarked}
-use Rattle.stack_layout.specs.Ops.{stackMarked}
-use Rattle.shadows.specs.Shadows.{Shadows, heap, primary, shadowOps, image}
+use Rattle.shadows.specs.Shadows.{Shadows, heap, primary, image}
 use Rattle.monitor_base.specs.Calls.{call}
 use Rattle.demands.specs.Addresses.{inHeap, inStack, bitPosition}
 use Rattle.demands.specs.Demand1.{numberOf}
@@ -38,21 +34,6 @@ use Rattle.demands.proofs.Demand2.{not-both-areas, image-listed}
 use Rattle.demands.proofs.MarkLaws.{aligned-sub, bits-among}
 use Rattle.demands.proofs.Readings.{blocks-read}
 use Rattle.demands.proofs.Alters.{record-stamps}
-
--- the written bit of an address, and the test of it that calls use
-pub written-marked : (m : FormMap) (s : Shadows) (x : ℕ) → writtenAt m s x ≡ bit (shadowOps m .marked s x)
-unfolding heapMarked stackMarked
-written-marked m s x = go (test (inHeap m x))
-  where
-    p : ℕ
-    p = x - m .«heap_start»
-
-    go : Test (inHeap m x) → writtenAt m s x ≡ bit (shadowOps m .marked s x)
-    go (is-true h) =
-        let k : ℕ = bitPosition m p in
-        let j : ℕ = p % m .segment % 8 in
-        rw h (sym (bit-test (bitOf (at (s .0) k) j) (bitOf-lt (at (s .0) k) j)))
-    go (is-false h) = rw h (sym (bit-test (at (s .1 .0) (x - m .«stack_start») % 2) (mod-lt (at (s .1 .0) (x - m .«stack_start»)) (lit< tt))))
 
 module _ (m : FormMap) (w : Beginning) (b l : ℕ) (s : Shadows) (e : numberOf m (begin w b l) s ≡ 0) (x : ℕ) (from : b ≤ x) (to : x < b + l) where
   A : begun.Accepted m w b l s e

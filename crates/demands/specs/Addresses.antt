@@ -29,10 +29,6 @@ endOfAreas m = max (m .«heap_start» + m .«heap_size») (m .«stack_start» + 
 
 -- ---- the heap's written bits
 
--- how many bytes of a segment hold them: as many as hold a bit for each of its bytes
-abbrev pub bitBytes : FormMap → ℕ
-bitBytes m = (m .segment + 7) / 8
-
 -- where position p has its bit: "bit j for byte j of the segment", from the byte after the segment's number on
 abbrev pub bitPosition : FormMap → (p : ℕ) → ℕ
 bitPosition m p = p / m .segment * m .segment + (m .width + p % m .segment / 8)

@@ -1,10 +1,9 @@
 -- Demand 1, what the calls that write alter, on any shadows, images or not: where record, free and written are accepted, every byte afterwards.
 -- (What remove leaves is `RemoveByReading` of Removals.antt, what clear leaves `ClearedRun` of Demand3.antt.) Proved in proofs/Alters.antt. Assumes nothing.
 use mathlib.Core.Path.{_≡_}
-use mathlib.Core.Logic.{_⊎_}
-use mathlib.Core.Bool.{Bool, true, false, cond, not, _&&_}
+use mathlib.Core.Bool.{Bool, cond, not, _&&_}
 use mathlib.Core.List.{[], _∷_}
-use Prim.Native.Nat.{ℕ, suc, _+_, _*_, _-_, _/_, _%_, _≤_, _<_}
+use Prim.Native.Nat.{ℕ, _+_, _*_, _-_, _/_, _%_, _≤_, _<_}
 use lib.ListN.{length}
 use Rattle.number.specs.Bits.{bitOf}
 use Rattle.number.specs.Parts.{at, inPart}
@@ -12,12 +11,10 @@ use Rattle.map.specs.FormMap.{FormMap}
 use Rattle.types.specs.declared.Beginning.{Beginning}
 use Rattle.plain.specs.Areas.{segments}
 use Rattle.plain.specs.Block.{begun}
-use Rattle.plain.specs.Call.{Call, begin, record-block, record-written, record-literal, free, written}
-use Rattle.plain.specs.ShadowCalls.{lengthOf}
+use Rattle.plain.specs.Call.{Call, begin, record-block, record-written, record-literal}
 use Rattle.shadows.specs.Shadows.{Shadows, Place, heap, primary, secondary, byteAt, image}
 use Rattle.monitor_base.specs.Calls.{call}
-use Rattle.demands.specs.Addresses.{inHeap, outside, bitBytes, bitPosition, readingAt}
-use Rattle.demands.specs.Numbers.{placeZero}
+use Rattle.demands.specs.Addresses.{inHeap, bitPosition}
 use Rattle.demands.specs.Demand1.{numberOf}
 
 -- every call, accepted or refused, leaves each shadow as long as it was
@@ -32,25 +29,11 @@ inPlace m b l (heap q) = inHeap m b && inPart (b - m .«heap_start» - m .segmen
 inPlace m b l (primary q) = not (inHeap m b) && inPart (b - m .«stack_start») l q
 inPlace m b l (secondary q) = not (inHeap m b) && inPart (b - m .«stack_start») l q
 
--- 6, "some shadow byte of the place (header and segments; primary and secondary of the range) is not zero": what the row goes by (`placeZero`)
--- holds exactly if every byte of the place is zero
-abbrev pub ZeroExactly : FormMap → Type 0
-ZeroExactly m =
-    (b l : ℕ) (s : Shadows)
-    → (placeZero m s b l ≡ true → (q : Place) → inPlace m b l q ≡ true → byteAt s q ≡ 0)
-    × (((q : Place) → inPlace m b l q ≡ true → byteAt s q ≡ 0) → placeZero m s b l ≡ true)
-
 -- "record (base, length)": the bytes of the place become those that the layout gives for the block as it begins, and no other byte is altered
 abbrev pub RecordStamps : FormMap → Type 0
 RecordStamps m =
     (h : Beginning) (b l : ℕ) (s : Shadows) → numberOf m (begin h b l) s ≡ 0 → (q : Place)
     → byteAt ((call m (begin h b l) s) .0) q ≡ cond (inPlace m b l q) (byteAt (image m (begun h b l ∷ [])) q) (byteAt s q)
-
--- "free (base): zeroes the shadow of the block and of its header", and alters no other byte
-abbrev pub FreeZeroes : FormMap → Type 0
-FreeZeroes m =
-    (x : ℕ) (s : Shadows) → numberOf m (free (suc x)) s ≡ 0 → (q : Place)
-    → byteAt ((call m (free (suc x)) s) .0) q ≡ cond (inPlace m (suc x) (lengthOf (readingAt m s (suc x))) q) 0 (byteAt s q)
 
 -- the written bit of an address: in the heap bit j of byte W + k of the segment for its byte 8 k + j (`bitPosition`), in the stack bit 0 of the primary
 -- byte
@@ -61,17 +44,6 @@ writtenAt m s x =
 -- bit 1 of an address: that of its primary byte in the stack; the heap has none, "heap blocks always may" be written
 abbrev pub literalAt : FormMap → Shadows → (address : ℕ) → ℕ
 literalAt m s x = cond (inHeap m x) 0 (at (s .1 .0) (x - m .«stack_start») / 2 % 2)
-
--- "written (address, n): n bytes inside one block become written; only their written bits change": the n bits are 1, that of every other address
--- of an area is as before, and so is whatever is no written bit
-abbrev pub WrittenMarks : FormMap → Type 0
-WrittenMarks m =
-    (a n : ℕ) (s : Shadows) → numberOf m (written a n) s ≡ 0
-    → ((x : ℕ) → a ≤ x → x < a + n → writtenAt m ((call m (written a n) s) .0) x ≡ 1)
-    × ((x : ℕ) → outside m x ≡ false → (x < a) ⊎ (a + n ≤ x) → writtenAt m ((call m (written a n) s) .0) x ≡ writtenAt m s x)
-    × ((q : ℕ) → (q % m .segment < m .width) ⊎ (m .width + bitBytes m ≤ q % m .segment) → at ((call m (written a n) s) .0 .0) q ≡ at (s .0) q)
-    × ((q : ℕ) → at ((call m (written a n) s) .0 .1 .0) q / 2 ≡ at (s .1 .0) q / 2)
-    × ((call m (written a n) s) .0 .1 .1 ≡ s .1 .1)
 
 -- record: "All bytes start unwritten"; S-1: "a block whose bytes all count as written"; S-5: "all written, bit 1 of each primary byte set": where
 -- it is accepted, the written bit and bit 1 of each byte of the block are 0 and 0 after the first, 1 and 0 after the second, 1 and 1 after the third

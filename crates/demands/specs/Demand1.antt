@@ -3,18 +3,17 @@
 -- proofs/Demand1.antt. That the code does what `call` says, stays in the lent memory and ends, is the contract of each function of `monitor`.
 -- Assumes nothing.
 use mathlib.Core.Path.{_≡_}
-use mathlib.Core.Logic.{_≢_, _⊎_}
+use mathlib.Core.Logic.{_≢_}
 use mathlib.Core.Bool.{Bool, true, false, cond}
-use mathlib.Core.List.{List, [], _∷_}
-use Prim.Native.Nat.{ℕ, _≤_}
+use mathlib.Core.List.{List}
+use Prim.Native.Nat.{ℕ}
 use lib.Dec.{eqb}
 use Rattle.number.specs.Parts.{Each}
 use Rattle.map.specs.FormMap.{FormMap}
-use Rattle.map.specs.Map.{goodMap}
-use Rattle.plain.specs.Call.{Call, clear, begin, free, remove, written, ask, valid, initialised, next, audit, place, answer, number, Refusal, firstOf}
-use Rattle.shadows.specs.Shadows.{Shadows, lengthsFit}
+use Rattle.plain.specs.Call.{Call, clear, begin, free, remove, written, ask, valid, initialised, next, audit, place, answer, number, Refusal}
+use Rattle.shadows.specs.Shadows.{Shadows}
 use Rattle.monitor_base.specs.Calls.{call}
-use Rattle.demands.specs.Numbers.{isEmpty, isMisplaced, freesStack, damageMet, rows}
+use Rattle.demands.specs.Numbers.{rows}
 
 -- the number of a call
 abbrev pub numberOf : FormMap → Call → Shadows → ℕ
@@ -45,10 +44,6 @@ isQuestion (place l k) = true
 abbrev pub QuestionsAlterNothing : FormMap → Type 0
 QuestionsAlterNothing m = (c : Call) (s : Shadows) → isQuestion c ≡ true → (call m c s) .0 ≡ s
 
--- the number is that of the first row of the table that holds, and 0 where none does
-abbrev pub ByTheTable : FormMap → Type 0
-ByTheTable m = (c : Call) (s : Shadows) → numberOf m c s ≡ firstOf (rows m c s)
-
 -- "An accepted call gives 0 as its number": exactly if no row holds
 abbrev pub AcceptedExactly : FormMap → Type 0
 AcceptedExactly m = (c : Call) (s : Shadows) → (NoneHolds (rows m c s) → numberOf m c s ≡ 0) × (numberOf m c s ≡ 0 → NoneHolds (rows m c s))
@@ -57,32 +52,3 @@ AcceptedExactly m = (c : Call) (s : Shadows) → (NoneHolds (rows m c s) → num
 -- and 7 the turn 9, which is no call's number; every other number has its own
 abbrev pub turn : ℕ → ℕ
 turn k = cond (eqb k 15) 7 (cond (eqb k 7) 9 k)
-
--- of every row that holds, the number's turn is at most that row's
-abbrev pub LowestWins : FormMap → Type 0
-LowestWins m = (c : Call) (s : Shadows) → Each (λ (r : Refusal). r .1 ≡ true → turn (numberOf m c s) ≤ turn (r .0)) (rows m c s)
-
--- one of the rows is so
-abbrev pub SomeRow : (Refusal → Type 0) → List Refusal → Type 0
-SomeRow P [] = ⊥
-SomeRow P (r ∷ rs) = P r ⊎ SomeRow P rs
-
--- "Returned | When": a number other than 0 is that of a row that holds
-abbrev pub ItsRowHolds : FormMap → Type 0
-ItsRowHolds m =
-    (c : Call) (s : Shadows) → numberOf m c s ≢ 0
-    → SomeRow (λ (r : Refusal). (r .0 ≡ numberOf m c s) × (r .1 ≡ true)) (rows m c s)
-
--- "7 never where 8 holds": where the number is 7, 8's condition is false
-abbrev pub SevenWithoutEight : FormMap → Type 0
-SevenWithoutEight m = (c : Call) (s : Shadows) → numberOf m c s ≡ 7 → damageMet m c s ≡ false
-
--- "Damage is reported by number 8": 8 only where its condition holds
-abbrev pub EightOnlyThere : FormMap → Type 0
-EightOnlyThere m = (c : Call) (s : Shadows) → numberOf m c s ≡ 8 → damageMet m c s ≡ true
-
--- and always there, unless 1, 2, 3, 4 or 15 comes first (5 and 6 are record's alone, which has no 8)
-abbrev pub EightThere : FormMap → Type 0
-EightThere m =
-    (c : Call) (s : Shadows) → goodMap m ≡ true → lengthsFit m s ≡ true → isEmpty c ≡ false → isMisplaced m c ≡ false
-    → freesStack m c ≡ false → damageMet m c s ≡ true → numberOf m c s ≡ 8

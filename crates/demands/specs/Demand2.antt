@@ -4,15 +4,13 @@
 -- Each statement is proved in proofs/Demand2.antt. That every call on every image answers as the list does is `OnEveryImage` of Demand3.antt.
 -- Assumes nothing.
 use mathlib.Core.Path.{_≡_}
-use mathlib.Core.Logic.{_≢_, _⊎_}
 use mathlib.Core.Bool.{true, false, cond}
 use mathlib.Core.List.{List}
-use Prim.Native.Nat.{ℕ, zero, suc, _+_, _*_, _/_, _≤_, _<_}
+use Prim.Native.Nat.{ℕ, zero, suc, _+_, _≤_}
 use lib.ListN.{length}
-use Rattle.number.specs.Parts.{at, Each}
+use Rattle.number.specs.Parts.{Each}
 use Rattle.number.specs.Little.{Bytes}
-use Rattle.map.specs.declared.Map.{Map}
-use Rattle.map.specs.FormMap.{FormMap, player, desk}
+use Rattle.map.specs.FormMap.{FormMap}
 use Rattle.map.specs.Map.{goodMap}
 use Rattle.plain.specs.Block.{Block}
 use Rattle.plain.specs.Blocks.{count, live, written}
@@ -23,7 +21,7 @@ use Rattle.plain.specs.ReadBack.{collect}
 use Rattle.plain.specs.Call.{ask, valid-write, audit, Answer, answer, number}
 use Rattle.shadows.specs.Shadows.{Shadows, lengthsFit, image, byteAt, looks}
 use Rattle.monitor_base.specs.Calls.{call}
-use Rattle.demands.specs.Addresses.{inHeap, inStack, outside, endOfAreas, bitBytes, readingAt}
+use Rattle.demands.specs.Addresses.{inHeap, inStack, outside, endOfAreas, readingAt}
 
 -- ---- readings
 
@@ -55,13 +53,6 @@ ReadsOn h k m =
 abbrev pub FewBytes : FormMap → Type 0
 FewBytes m = ReadsOn (m .width + m .width + 1) 9 m
 
--- "Nine bytes are read" by the player; S-8: "seventeen bytes a reading in place of nine" by the desk
-abbrev pub NineBytes : Map → Type 0
-NineBytes m = ReadsOn 9 9 (player m)
-
-abbrev pub SeventeenBytes : Map → Type 0
-SeventeenBytes m = ReadsOn 17 9 (desk m)
-
 -- ---- images
 
 -- an image has the right lengths, and each of its bytes is below 256
@@ -69,16 +60,6 @@ abbrev pub ImageShape : FormMap → Type 0
 ImageShape m =
     (bs : List Block)
     → (lengthsFit m (image m bs) ≡ true) × Bytes ((image m bs) .0) × Bytes ((image m bs) .1 .0) × Bytes ((image m bs) .1 .1)
-
--- what the layouts set to zero and no reading looks at, in the image of any list. Heap segment, "Bytes 5 to 7 are zero" where its number (bytes 0 to 3)
--- is not; S-8: "Bytes 8 and 9 of a segment hold the written bits, the rest zero". Stack, "Secondary bytes zero" where the code is
--- 0 to 36, and "Further ones are zero" where a byte is 8 or more places into its piece
-abbrev pub RestZero : FormMap → Type 0
-RestZero m =
-    (bs : List Block)
-    → ((k i j : ℕ) → i < m .width → m .width + bitBytes m ≤ j → j < m .segment → at ((image m bs) .0) (k * m .segment + i) ≢ 0
-    → at ((image m bs) .0) (k * m .segment + j) ≡ 0)
-    × ((q : ℕ) → (at ((image m bs) .1 .0) q / 4 ≤ 36) ⊎ (48 + 8 ≤ at ((image m bs) .1 .0) q / 4) → at ((image m bs) .1 .1) q ≡ 0)
 
 -- a list has one image, since `image` is a function; and an image has one list: two placed lists (placeable blocks in address order) with
 -- the same image are the same list, written bytes and literals included
@@ -131,9 +112,3 @@ listTold m s = collect (toldAt m s) 0 (endOfAreas m)
 -- the list read back is the list the image was made of
 abbrev pub ReadBack : FormMap → Type 0
 ReadBack m = goodMap m ≡ true → (bs : List Block) → Placed (mapRules m) 0 bs → listTold m (image m bs) ≡ bs
-
--- for any map and any shadows: where audit answers 0 the list read back is placed, the shadows are its image, and the answer is its totals
-abbrev pub MadeOf : FormMap → Type 0
-MadeOf m =
-    (s : Shadows) → number ((call m audit s) .1) ≡ 0
-    → Placed (mapRules m) 0 (listTold m s) × (image m (listTold m s) ≡ s) × (call m audit s ≡ (s, totalsOf m (listTold m s)))

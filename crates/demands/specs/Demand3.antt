@@ -26,15 +26,6 @@ shadowRun m s cs = run (λ (x : Shadows). x) (call m) s cs
 abbrev pub plainRun : FormMap → List Block → List Call → List (Answer × Shadows)
 plainRun m bs cs = run (image m) (plainStep (mapRules m)) bs cs
 
--- "after each call": a run begins with the answer and the shadows of its first call, and goes on from what that left; so does the list's
-abbrev pub RunsEachCall : FormMap → Type 0
-RunsEachCall m =
-    (c : Call) (cs : List Call)
-    → ((s : Shadows) → shadowRun m s (c ∷ cs) ≡ ((call m c s) .1, (call m c s) .0) ∷ shadowRun m ((call m c s) .0) cs)
-    × ((bs : List Block)
-    → plainRun m bs (c ∷ cs)
-    ≡ ((plainStep (mapRules m) c bs) .1, image m ((plainStep (mapRules m) c bs) .0)) ∷ plainRun m ((plainStep (mapRules m) c bs) .0) cs)
-
 -- "Compared are the number, every answer field and, after each call, every shadow byte": one claim about the whole list of calls
 abbrev pub WholeRun : FormMap → Type 0
 WholeRun m = goodMap m ≡ true → (cs : List Call) → shadowRun m (zeroShadows m) cs ≡ plainRun m [] cs

@@ -10,7 +10,6 @@ pub mod Desk
 pub mod DeskSamples
 pub mod Gaps
 pub mod GivenShadows
-pub mod Good
 pub mod MapSamples
 pub mod Null
 pub mod Places

@@ -3,7 +3,6 @@
 use mathlib.Core.Path.{_≡_}
 use mathlib.Core.Bool.{true}
 use mathlib.Core.List.{List, [], _∷_}
-use Prim.Native.Nat.{ℕ}
 use Rattle.plain.specs.Call.{record-block, record-literal, remove, written, ask, valid-write, valid-read, initialised, next, audit, answer, refusal, done}
 use Rattle.demands.specs.Samples.{Sample, sampleMap, allHold, one, zeros8}
 

@@ -1,26 +1,24 @@
 -- Request S-5, text that may only be read: what is said of it that would fail if it were built wrongly on both sides, shadows and plain list.
 -- Proved in proofs/Literals.antt. Assumes nothing.
 use mathlib.Core.Path.{_≡_}
-use mathlib.Core.Logic.{_≢_}
 use mathlib.Core.Bool.{Bool, true, false, cond}
 use mathlib.Core.List.{List}
-use Prim.Native.Nat.{ℕ, _+_, _*_, _-_, _/_, _%_, _≤_, _<_}
-use lib.Dec.{leb, eqb}
-use Rattle.number.specs.Parts.{at, inPart}
+use Prim.Native.Nat.{ℕ, _+_, _-_, _≤_, _<_}
+use lib.Dec.{eqb}
+use Rattle.number.specs.Parts.{inPart}
 use Rattle.map.specs.FormMap.{FormMap}
 use Rattle.map.specs.Map.{goodMap}
 use Rattle.plain.specs.Block.{Block, len}
 use Rattle.plain.specs.Blocks.{Has}
 use Rattle.plain.specs.Rules.{Placed}
 use Rattle.plain.specs.Areas.{mapRules}
-use Rattle.plain.specs.Reading.{Reading, nothing, block, damaged}
 use Rattle.plain.specs.Call.{Call, clear, begin, record-written, record-literal, free, remove, written, ask, valid, valid-write, valid-read, initialised, next, audit, place, answer}
 use Rattle.plain.specs.PlainList.{plainStep}
-use Rattle.shadows.specs.Shadows.{Shadows, lengthsFit, image, Place, heap, primary, secondary, byteAt}
+use Rattle.shadows.specs.Shadows.{Shadows, image, Place, heap, primary, secondary, byteAt}
 use Rattle.monitor_base.specs.Calls.{call}
-use Rattle.demands.specs.Addresses.{inHeap, inStack, readingAt}
+use Rattle.demands.specs.Addresses.{inHeap}
 use Rattle.demands.specs.Demand1.{numberOf}
-use Rattle.demands.specs.Alters.{inPlace, literalAt}
+use Rattle.demands.specs.Alters.{inPlace}
 
 -- ---- valid_read and valid
 
@@ -45,34 +43,7 @@ WriteExactly m =
 
 -- ---- bit 1
 
-abbrev pub asLiteral : Reading → Reading
-asLiteral nothing = nothing
-asLiteral (block b l o w t) = block b l o w true
-asLiteral damaged = damaged
-
--- "A set bit 1 is damage only with code 0": whatever the bytes are, setting bit 1 of an address's primary byte makes the reading damaged where the code
--- is 0, and else leaves it as it was, damaged or not, but for the mark. s′ is s with that bit set, as far as the reading looks
-abbrev pub BitOne : FormMap → Type 0
-BitOne m =
-    (s s′ : Shadows) (a x : ℕ) → inHeap m a ≡ false → inStack m a ≡ true
-    → at (s .1 .0) (a - m .«stack_start») ≡ x → at (s′ .1 .0) (a - m .«stack_start») ≡ x / 4 * 4 + 2 + x % 2 → s′ .1 .1 ≡ s .1 .1
-    → (x / 4 ≡ 0 → readingAt m s′ a ≡ damaged) × (x / 4 ≢ 0 → readingAt m s′ a ≡ asLiteral (readingAt m s a))
-
--- "audit wants it equal over a block, and each byte written where it is set": on whatever shadows audit answers 0, bit 1 of every byte of a block is
--- that of each other, and a byte that has it is written
-abbrev pub AuditWants : FormMap → Type 0
-AuditWants m =
-    (s : Shadows) → numberOf m audit s ≡ 0 → (a b l o w : ℕ) (t : Bool) → readingAt m s a ≡ block b l o w t
-    → (t ≡ true → w ≡ 1) × ((x : ℕ) → b ≤ x → x < b + l → literalAt m s x ≡ literalAt m s a)
-
 -- ---- a literal stays as it is
-
--- "13, after 8, written into a literal": whatever the bytes are, where the address's reading is of a literal, written is refused by 3 where n is 0,
--- by 7 where the n bytes pass its end, else by 13
-abbrev pub WrittenRefused : FormMap → Type 0
-WrittenRefused m =
-    (s : Shadows) → goodMap m ≡ true → lengthsFit m s ≡ true → (a n b l o w : ℕ) → readingAt m s a ≡ block b l o w true
-    → call m (written a n) s ≡ (s, answer (cond (eqb n 0) 3 (cond (leb (o + n) l) 13 7)) 0 0 0 0)
 
 -- the calls that may end the literal with this base: free is none of them, as it lies in the stack
 abbrev pub endsLiteral : (base : ℕ) → Call → Bool
@@ -114,9 +85,3 @@ abbrev pub LiteralBytes : FormMap → Type 0
 LiteralBytes m =
     (b l : ℕ) (s : Shadows) → numberOf m (record-literal b l) s ≡ 0 → (q : Place)
     → byteAt ((call m (record-literal b l) s) .0) q ≡ byteAt ((call m (record-written b l) s) .0) q + twoAt m b l q
-
--- "with 4 outside the stack area": at every other base it is 3 where the length is 0, else 4
-abbrev pub LiteralElsewhere : FormMap → Type 0
-LiteralElsewhere m =
-    (s : Shadows) → goodMap m ≡ true → lengthsFit m s ≡ true → (b l : ℕ) → inStack m b ≡ false
-    → call m (record-literal b l) s ≡ (s, answer (cond (eqb l 0) 3 4) 0 0 0 0)

@@ -5,7 +5,6 @@ use mathlib.Core.Path.{_≡_}
 use mathlib.Core.Bool.{true}
 use mathlib.Core.List.{List}
 use Prim.Native.Nat.{ℕ, suc, _+_, _*_, _-_, _≤_, _<_, min}
-use lib.ListN.{length}
 use Rattle.number.specs.Parts.{at}
 use Rattle.map.specs.FormMap.{FormMap}
 use Rattle.map.specs.Map.{goodMap}
@@ -14,7 +13,7 @@ use Rattle.plain.specs.Gaps.{Gap, Among, Ascending}
 use Rattle.plain.specs.Rules.{Placed}
 use Rattle.plain.specs.Areas.{segments, mapRules}
 use Rattle.plain.specs.Call.{record-block, record-written, place, Answer, answer}
-use Rattle.shadows.specs.Shadows.{Shadows, lengthsFit, shadowOps, image}
+use Rattle.shadows.specs.Shadows.{Shadows, shadowOps, image}
 use Rattle.monitor_base.specs.Calls.{call}
 use Rattle.demands.specs.Gaps.{heapSegments, gapsBelow, placeBytes}
 use Rattle.demands.specs.Demand1.{numberOf}
@@ -50,14 +49,6 @@ GapsExactly m =
     × ((g : Gap) → Among g (gapsAt m s) → (i : ℕ) × (n : ℕ) × IsGap m s i n × (g ≡ gapFrom m i n))
     × Ascending (gapsAt m s)
 
--- and `gapsBelow` counts them: none begin before segment 0, each counts one, nothing else does, and those of all segments are all
-abbrev pub GapsCounted : FormMap → Type 0
-GapsCounted m =
-    (s : Shadows)
-    → (length (gapsAt m s) ≡ gapsBelow m s (heapSegments m)) × (gapsBelow m s 0 ≡ 0)
-    × ((i n : ℕ) → IsGap m s i n → gapsBelow m s (suc i) ≡ suc (gapsBelow m s i))
-    × ((i : ℕ) → i < heapSegments m → ((n : ℕ) → IsGap m s i n → ⊥) → gapsBelow m s (suc i) ≡ gapsBelow m s i)
-
 -- ---- the choice
 
 -- a gap that is looked at, one of the first k, and fits: "it holds header and block"
@@ -80,14 +71,6 @@ PlaceChooses m =
     × ((j p : ℕ) → Fits m s l k j p → (n ≤ p) × (n ≡ p → i ≤ j))
     × (call m (place l k) s
     ≡ (s, answer 0 (m .«heap_start» + i * m .segment + m .segment) (min k (gapsBelow m s (heapSegments m))) (n * m .segment - placeBytes m l) 0))
-
--- "14, after 3, exactly if no gap looked at fits": under a good map, with the right lengths and a length of one or more, it is refused by 14 if none
--- does, and accepted if one does
-abbrev pub PlaceRefused : FormMap → Type 0
-PlaceRefused m =
-    (s : Shadows) → goodMap m ≡ true → lengthsFit m s ≡ true → (l k : ℕ) → 1 ≤ l
-    → (((i n : ℕ) → Fits m s l k i n → ⊥) → call m (place l k) s ≡ (s, answer 14 0 0 0 0))
-    × ((i n : ℕ) → Fits m s l k i n → numberOf m (place l k) s ≡ 0)
 
 abbrev pub surplusOf : Answer → ℕ
 surplusOf (answer k a b c d) = c

@@ -8,13 +8,13 @@ use Rattle.map.specs.FormMap.{player}
 use Rattle.plain.specs.Areas.{mapRules}
 use Rattle.plain.specs.Call.{Answer, number, refusal, firstOf, unless}
 use Rattle.shadows.specs.Shadows.{shadowOps}
-use Rattle.demands.proofs.RowLaws.{Ascending, first-none, none-first, lowest, first-holds}
+use Rattle.demands.proofs.RowLaws.{Ascending, first-none, none-first}
 use Rattle.origins_list.specs.Call.{Call}
 use Rattle.origins_list.specs.StateCalls.{stateAfter, stateAnswer}
 use Rattle.cells_layout.specs.Cells.{cellOps}
 use Rattle.origins_base.specs.Calls.{State, refusals, call}
 use Rattle.demands_origins.specs.Numbers.{rows}
-use Rattle.demands_origins.specs.Demand1.{RefusedAltersNothing, ByTheTable, AcceptedExactly, LowestWins, ItsRowHolds}
+use Rattle.demands_origins.specs.Demand1.{RefusedAltersNothing, AcceptedExactly}
 use Rattle.demands_origins.proofs.Numbers.{answered-0, by-rows}
 
 pub refused-alters-nothing : RefusedAltersNothing
@@ -28,9 +28,6 @@ refused-alters-nothing m c x h = go (firstOf (refusals m c x)) h
     go zero h = absurd (h (answered-0 m c x))
     go (suc k) h = refl
 
-pub by-the-table : ByTheTable
-by-the-table = by-rows
-
 ascending : (m : Map) (c : Call) (x : State) → Ascending 0 (rows m c x)
 ascending m c x =
     (omega arith, (omega arith, (omega arith, (omega arith, (omega arith, (omega arith, (omega arith, (omega arith, (omega arith, (omega arith, (omega arith, (omega arith, (omega arith, tt)))))))))))))
@@ -40,9 +37,3 @@ accepted-exactly m c x = (
   λ h. by-rows m c x ∙ first-none (rows m c x) h,
   λ e. none-first (rows m c x) 0 (ascending m c x) (sym (by-rows m c x) ∙ e),
 )
-
-pub lowest-wins : LowestWins
-lowest-wins m c x = rw (by-rows m c x) (lowest (rows m c x) 0 (ascending m c x))
-
-pub its-row-holds : ItsRowHolds
-its-row-holds m c x n = rw (by-rows m c x) (first-holds (rows m c x) (rw (by-rows m c x) at n))

@@ -32,7 +32,7 @@ use Rattle.origins_base.specs.Calls.{State, call, firstStateAt, imageOf}
 use Rattle.origins_base.proofs.CallLaws.{call-step}
 use Rattle.demands.specs.Addresses.{inHeap, inStack, outside}
 use Rattle.demands_origins.specs.Alters.{originIn, referentIn}
-use Rattle.demands_origins.specs.Demand3.{stateRun, listRun, stateReached, listReached, RunsEachCall, WholeRun, NoDamage, OnEveryImage, StaysCarried, ClearedRun, ReachedCarries, CellsHold}
+use Rattle.demands_origins.specs.Demand3.{stateRun, listRun, stateReached, listReached, WholeRun, NoDamage, OnEveryImage, StaysCarried, ClearedRun, CellsHold}
 use Rattle.demands_origins.proofs.CellLaws.{origin-words, referent-words}
 
 within-one : (h k : Bool) → (not h && not k) ≡ false → (h || k) ≡ true
@@ -92,10 +92,6 @@ module _ (m : Map) (ok : goodMap (player m) ≡ true) where
 
 -- ---- the statements
 
-pub runs-each-call : RunsEachCall
-unfolding run stateReached listReached
-runs-each-call m c cs = (λ x. (refl, refl, refl, refl), λ x. (refl, refl, refl, refl))
-
 pub whole-run : WholeRun
 whole-run m ok cs =
     ap (λ (x : State). stateRun m x cs) (sym (first-image m ok 1)) ∙ run-from m ok firstList (first-list m ok 1 (omega arith) (omega arith)) cs
@@ -125,10 +121,6 @@ cleared-run m ok x l f = (zeros, λ o n cs. rw (zeros, first-image m ok (x .coun
     later o n cs =
         ap (λ (y : State). stateRun m y cs) (sym (first-image m ok (x .counter)))
         ∙ run-from m ok (firstListAt (x .counter)) (first-list m ok (x .counter) o n) cs
-
-pub reached-carries : ReachedCarries
-reached-carries m ok k o n cs =
-    let r = reached m ok k o n cs in (r .0, carries (mapRules (player m)) (sound m ok) (listReached m (firstListAt k) cs) (r .1))
 
 pub cells-hold : CellsHold
 cells-hold m ok k o n cs c i e =

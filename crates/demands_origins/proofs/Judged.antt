@@ -1,5 +1,5 @@
 -- Kind 13 is judged by the history of calls, proved: see specs/Judged.antt for what each says. Assumes nothing.
-use mathlib.Core.Path.{_≡_, refl, ap, _∙_}
+use mathlib.Core.Path.{_≡_, ap, _∙_}
 use mathlib.Core.Bool.{true}
 use mathlib.Core.List.{List, [], _∷_}
 use Prim.Native.Nat.{ℕ, _+_, _≤_}
@@ -17,12 +17,8 @@ use Rattle.origins_list.proofs.CarriedLaws.{first-told, step-judged}
 use Rattle.origins_base.specs.Calls.{State, call, firstStateAt, imageOf}
 use Rattle.demands_origins.specs.Demand1.{numberOf}
 use Rattle.demands_origins.specs.Demand3.{stateReached, listReached}
-use Rattle.demands_origins.specs.Judged.{history, HistoryEachCall, JudgedByHistory, CounterCounts}
+use Rattle.demands_origins.specs.Judged.{history, JudgedByHistory, CounterCounts}
 use Rattle.demands_origins.proofs.Demand3.{sound, GoodList, one-call, first-image, first-list, reached}
-
-pub history-each-call : HistoryEachCall
-unfolding history
-history-each-call m x h c cs = (refl, refl)
 
 module _ (m : Map) (ok : goodMap (player m) ≡ true) (k : ℕ) (first : 1 ≤ k) where
   abbrev Told : History → OriginList → Type 0

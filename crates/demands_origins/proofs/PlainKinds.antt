@@ -13,8 +13,8 @@ use Rattle.map.specs.FormMap.{player}
 use Rattle.map.specs.Map.{goodMap}
 use Rattle.plain.specs.Areas.{mapRules}
 use Rattle.plain.specs.Call as base
-use Rattle.plain.specs.Call.{clear, begin, free, remove, written, ask, valid, initialised, next, audit, place, Answer, Refusal, firstOf, unless, allows, byRules}
-use Rattle.plain.specs.ShadowCalls.{byShadows, shadowAnswer}
+use Rattle.plain.specs.Call.{clear, begin, free, remove, written, ask, valid, initialised, next, audit, place, Refusal, firstOf, allows, byRules}
+use Rattle.plain.specs.ShadowCalls.{byShadows}
 use Rattle.shadows.specs.Shadows.{lengthsFit, shadowOps}
 use Rattle.monitor_base.specs.Calls as monitor
 use Rattle.demands.specs.Numbers.{rows}
@@ -25,7 +25,7 @@ use Rattle.origins_list.specs.StateCalls.{byState}
 use Rattle.cells_layout.specs.Cells.{cellsFit, cellOps}
 use Rattle.origins_base.specs.Calls.{State, refusals, call}
 use Rattle.demands_origins.specs.Numbers.{offCell, outOfRange}
-use Rattle.demands_origins.specs.PlainKinds.{fromPlain, PlainNumbers, PlainAccepted, AuditPlain}
+use Rattle.demands_origins.specs.PlainKinds.{fromPlain, PlainAccepted}
 use Rattle.demands_origins.proofs.Numbers.{number-first}
 
 -- ---- the numbers
@@ -104,9 +104,6 @@ module _ (m : Map) (x : State) where
           )
       go (is-true g) (is-true l) (is-true f) = rw (g, l, f) (rest c)
 
-pub plain-numbers : PlainNumbers
-plain-numbers m c x = number-first m (plain c) x ∙ by-conditions m x c ∙ rw (before.number-first (player m) c (x .shadows))
-
 -- ---- where it is accepted
 
 -- so it is in the plain form
@@ -127,12 +124,3 @@ plain-accepted m c x e =
     let y : firstOf (monitor.refusals (player m) c (x .shadows)) ≡ 0 =
     from-0 _ (cellsFit m (x .cells)) (offCell c) (outOfRange c (x .counter)) (sym (by-conditions m x c) ∙ z) in
     rw (z, y) (refl, refl)
-
-pub audit-plain : AuditPlain
-unfolding call monitor.call
-audit-plain m x f = rw f (go (firstOf (monitor.refusals (player m) audit (x .shadows))))
-  where
-    go : (k : ℕ) → _≡_ {A = State × Answer} (unless k x (x, shadowAnswer (mapRules (player m)) (shadowOps (player m)) audit (x .shadows)))
-        (x, (unless k (x .shadows) (x .shadows, shadowAnswer (mapRules (player m)) (shadowOps (player m)) audit (x .shadows))) .1)
-    go zero = refl
-    go (suc k) = refl

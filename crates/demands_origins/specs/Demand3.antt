@@ -41,20 +41,6 @@ unfoldable pub listReached : Map → OriginList → List Call → OriginList
 listReached m x [] = x
 listReached m x (c ∷ cs) = listReached m ((originStep (mapRules (player m)) c x) .0) cs
 
--- a run begins with the answer and the state of its first call, and goes on from what that left; so does the list's. What is reached after no call
--- is where it began, and after one more it is what that leaves
-abbrev pub RunsEachCall : Type 0
-RunsEachCall =
-    (m : Map) (c : Call) (cs : List Call)
-    → ((x : State)
-    → (stateRun m x [] ≡ []) × (stateRun m x (c ∷ cs) ≡ ((call m c x) .1, (call m c x) .0) ∷ stateRun m ((call m c x) .0) cs)
-    × (stateReached m x [] ≡ x) × (stateReached m x (c ∷ cs) ≡ stateReached m ((call m c x) .0) cs))
-    × ((x : OriginList)
-    → (listRun m x [] ≡ [])
-    × (listRun m x (c ∷ cs)
-    ≡ ((originStep (mapRules (player m)) c x) .1, imageOf m ((originStep (mapRules (player m)) c x) .0)) ∷ listRun m ((originStep (mapRules (player m)) c x) .0) cs)
-    × (listReached m x [] ≡ x) × (listReached m x (c ∷ cs) ≡ listReached m ((originStep (mapRules (player m)) c x) .0) cs))
-
 -- one claim about the whole list of calls: the number, every field, every shadow byte, every byte of the cells and the counter after each call
 abbrev pub WholeRun : Type 0
 WholeRun = (m : Map) → goodMap (player m) ≡ true → (cs : List Call) → stateRun m (firstState m) cs ≡ listRun m firstList cs
@@ -84,12 +70,6 @@ ClearedRun =
     → (call m (plain clear) x ≡ (firstStateAt m (x .counter), answer 0 0 0 0 0))
     × (1 ≤ x .counter → x .counter ≤ 4294967296 → (cs : List Call)
     → stateRun m x (plain clear ∷ cs) ≡ listRun m (firstListAt (x .counter)) (plain clear ∷ cs))
-
--- what is reached, wherever the counter stood at first, stands for what the list reached, which carries what it should (origins_list, Carries.antt)
-abbrev pub ReachedCarries : Type 0
-ReachedCarries =
-    (m : Map) → goodMap (player m) ≡ true → (k : ℕ) → 1 ≤ k → k ≤ 4294967296 → (cs : List Call)
-    → (stateReached m (firstStateAt m k) cs ≡ imageOf m (listReached m (firstListAt k) cs)) × Carries (mapRules (player m)) (listReached m (firstListAt k) cs)
 
 -- "After each call the cells hold exactly these: a live block's origin at its base's cell, a set pointer's referent at its own, zero elsewhere":
 -- each cell of the areas, its two numbers of four bytes, are those of the list, which is 0 elsewhere (`ReachedCarries`)

@@ -22,12 +22,6 @@ unfoldable pub history : Map → State → (before : History) → List Call → 
 history m x h [] = h
 history m x h (c ∷ cs) = history m ((call m c x) .0) ((c, eqb (numberOf m c x) 0) ∷ h) cs
 
--- no call adds nothing; each call comes in with whether its number is 0
-abbrev pub HistoryEachCall : Type 0
-HistoryEachCall =
-    (m : Map) (x : State) (h : History) (c : Call) (cs : List Call)
-    → (history m x h [] ≡ h) × (history m x h (c ∷ cs) ≡ history m ((call m c x) .0) ((c, eqb (numberOf m c x) 0) ∷ h) cs)
-
 -- for every good map and every list of calls made before, refused ones among them, wherever the counter stood at first (at 1, or where a map before
 -- left it): whatever its number, the answer field of kind 13 is what the history says, 1 or 0
 abbrev pub JudgedByHistory : Type 0
