@@ -4,13 +4,11 @@ pub mod Demand1
 pub mod Demand2
 pub mod Demand3
 pub mod Desk
-pub mod DeskSamples
 pub mod GapLists
 pub mod GapRuns
 pub mod GapWords
 pub mod Literals
 pub mod LiteralBegun
-pub mod MapSamples
 pub mod MarkLaws
 pub mod Null
 pub mod Numbers
@@ -19,5 +17,4 @@ pub mod Places
 pub mod Readings
 pub mod Removals
 pub mod RowLaws
-pub mod Samples
 pub mod Starts

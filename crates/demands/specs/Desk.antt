@@ -1,6 +1,6 @@
 -- Request S-8, the desk simulator: what is said of its sizes that would fail if shadows and plain list had others, both at once. That the three demands
--- hold for the desk as for every form is `every-form` and `desk-form` of the promises; its samples are in DeskSamples.antt. Proved in proofs/Desk.antt.
--- Assumes nothing.
+-- hold for the desk as for every form is `every-form` and `desk-form` of the promises; its samples are in crates/specification_samples. Proved in
+-- proofs/Desk.antt. Assumes nothing.
 use mathlib.Core.Path.{_≡_}
 use mathlib.Core.Bool.{true, cond}
 use Prim.Native.Nat.{ℕ, _+_, _*_, _-_, _/_, _≤_, _<_}

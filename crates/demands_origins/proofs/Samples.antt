@@ -18,8 +18,7 @@ use Rattle.stack_layout.specs.Reading.{fitted, badPiece, longReading, codeReadi
 use Rattle.stack_layout.specs.Walk.{isClear, isByte, lengthAt, stackWalk}
 use Rattle.stack_layout.specs.Ops.{stackVacant, stackStamp, stackErase, stackMark, stackMarked}
 use Rattle.shadows.specs.Shadows.{lengthsFit}
-use Rattle.demands.specs.GivenShadows.{put}
-use Rattle.demands.specs.Samples.{sameBytes}
+use Rattle.demands.specs.GivenShadows.{sameBytes, put}
 use Rattle.cells_layout.specs.Area.{setHalf, zeroCells}
 use Rattle.cells_layout.specs.Cells.{cellsFit}
 use Rattle.origins_base.specs.Calls.{call}

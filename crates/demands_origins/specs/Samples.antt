@@ -8,9 +8,8 @@ use Prim.Native.Nat.{ℕ}
 use lib.ListN.{replicate}
 use lib.Dec.{eqb}
 use Rattle.plain.specs.Call.{record-block, record-written, record-literal, free, remove, written, ask, valid-write, valid-read, audit, clear, Answer, answer, refusal, done, yesNo}
-use Rattle.demands.specs.GivenShadows.{Part, put}
+use Rattle.demands.specs.GivenShadows.{sampleMap, sameAnswer, sameBytes, Part, put}
 use Rattle.map.specs.FormMap.{areas}
-use Rattle.demands.specs.Samples.{sampleMap, sameAnswer, sameBytes}
 use Rattle.origins_list.specs.Call.{Call, plain, point, copy, live}
 use Rattle.origins_base.specs.Calls.{State, call, firstState}
 

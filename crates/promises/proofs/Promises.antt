@@ -1,10 +1,9 @@
 -- Every promise, proved: see specs/Promises.antt. Assumes nothing.
 use Rattle.map.specs.declared.Form.the-variants.{Player, Desk}
 use Rattle.promises.specs.Promises.{Promises}
-use Rattle.demands.proofs.Samples.{samples-hold, literal-samples-hold, place-samples-hold, removal-samples-hold, damage-samples-hold}
-use Rattle.demands.proofs.MapSamples.{map-samples-hold, desk-map-samples-hold}
-use Rattle.demands.proofs.DeskSamples.{desk-samples-hold}
-use Rattle.demands.proofs.Desk.{desk-example}
+use Rattle.specification_samples.proofs.Samples.{samples-hold, edge-samples-hold, literal-samples-hold, place-samples-hold, removal-samples-hold, damage-samples-hold, desk-samples-hold}
+use Rattle.specification_samples.proofs.MapSamples.{map-samples-hold, desk-map-samples-hold}
+use Rattle.specification_samples.proofs.DeskExample.{desk-example}
 use Rattle.demands_origins.proofs.Judged.{counter-counts}
 use Rattle.demands_origins.proofs.Samples as origins-samples
 use Rattle.calls_format.proofs.RunningLaws.{same-run, never-damaged}
@@ -49,6 +48,7 @@ promises =
       counter-counts = counter-counts;
       origins-samples-hold = origins-samples.samples-hold;
       samples-hold = samples-hold;
+      edge-samples-hold = edge-samples-hold;
       literal-samples-hold = literal-samples-hold;
       place-samples-hold = place-samples-hold;
       removal-samples-hold = removal-samples-hold;

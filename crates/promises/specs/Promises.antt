@@ -9,14 +9,14 @@ use Rattle.specification.specs.Looks.{playerLooks, deskLooks}
 use Rattle.specification.specs.Votes.{FirstVote, SecondVote, ThirdVote}
 use Rattle.specification.specs.Requests.{WrittenFromStart, FreeOfNull, Literals, Places, Removals}
 use Rattle.specification_origins.specs.Votes as origins
-use Rattle.demands.specs.Desk.{DeskExample}
-use Rattle.demands.specs.DeskSamples.{DeskSamplesHold, DeskMapSamplesHold}
-use Rattle.demands.specs.Samples.{SamplesHold}
-use Rattle.demands.specs.LiteralSamples.{LiteralSamplesHold}
-use Rattle.demands.specs.PlaceSamples.{PlaceSamplesHold}
-use Rattle.demands.specs.RemovalSamples.{RemovalSamplesHold}
-use Rattle.demands.specs.MapSamples.{MapSamplesHold}
-use Rattle.demands.specs.DamageSamples.{DamageSamplesHold}
+use Rattle.specification_samples.specs.Samples.{SamplesHold}
+use Rattle.specification_samples.specs.EdgeSamples.{EdgeSamplesHold}
+use Rattle.specification_samples.specs.LiteralSamples.{LiteralSamplesHold}
+use Rattle.specification_samples.specs.PlaceSamples.{PlaceSamplesHold}
+use Rattle.specification_samples.specs.RemovalSamples.{RemovalSamplesHold}
+use Rattle.specification_samples.specs.MapSamples.{MapSamplesHold}
+use Rattle.specification_samples.specs.DamageSamples.{DamageSamplesHold}
+use Rattle.specification_samples.specs.DeskSamples.{DeskExample, DeskSamplesHold, DeskMapSamplesHold}
 use Rattle.demands_origins.specs.Judged.{CounterCounts}
 use Rattle.demands_origins.specs.Samples as origins-samples
 use Rattle.calls_format.specs.Running.{SameRun, NeverDamaged}
@@ -57,10 +57,12 @@ pub record Promises : Type 0 where
   -- the counter goes up by one for each accepted recording; samples: the first counter, the bytes of a number, numbers at their edges, runs
   pub counter-counts : CounterCounts
   pub origins-samples-hold : origins-samples.SamplesHold
-  -- ---- samples (Samples.antt, LiteralSamples.antt, PlaceSamples.antt, RemovalSamples.antt, MapSamples.antt, DamageSamples.antt, ByteSamples.antt)
+  -- ---- samples (specification_samples, in the file that the name says)
 
-  -- the marked samples, the worked example, edges, blocks that begin written, and numbers above 255
+  -- the marked samples of document 01, and its worked example
   pub samples-hold : SamplesHold
+  -- the edges of what map and arguments decide, blocks that begin written, and numbers above 255
+  pub edge-samples-hold : EdgeSamplesHold
   -- literals: their bytes, and what each call makes of them
   pub literal-samples-hold : LiteralSamplesHold
   -- place: the choice, the count, the surplus, every byte of a segment, numbers of 32 bits
@@ -69,15 +71,13 @@ pub record Promises : Type 0 where
   pub removal-samples-hold : RemovalSamplesHold
   -- each rule of a map broken alone and at its edge, and each length of a shadow
   pub map-samples-hold : MapSamplesHold
-  -- each clause of "damaged if", every byte of the numbers, what each call makes of damage, and bytes that do not agree
+  -- each condition under which a reading is damaged, every byte of the numbers, what each call makes of damage, and bytes that do not agree
   pub damage-samples-hold : DamageSamplesHold
-  -- ---- S-8: the desk (Desk.antt, DeskSamples.antt)
-
-  -- the example of source 000, on any shadows and under any map that hold it
+  -- S-8: the example of source 000, on any shadows and under any map that hold it
   pub desk-example : DeskExample
-  -- header and bits byte for byte, whole segments, 4 and 5, damage by each byte of a number, marks over both bytes of bits, every call
+  -- S-8: header and bits byte for byte, whole segments, 4 and 5, damage by each byte of a number, marks over both bytes of bits, every call
   pub desk-samples-hold : DeskSamplesHold
-  -- each rule of a desk's map broken alone and at its edge
+  -- S-8: each rule of a desk's map broken alone and at its edge
   pub desk-map-samples-hold : DeskMapSamplesHold
   -- ---- the calls program (calls_format, Running.antt and NewMapSamples.antt; calls_file, File.antt)
 

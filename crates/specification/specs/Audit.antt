@@ -1,5 +1,5 @@
--- Document 01, audit, kind 9: heap blocks, stack blocks, live bytes, written bytes; 8 where the shadows are no image. The list is read back by
--- readings, address by address; the shadows are an image exactly if that list may stand and has them as its image. Assumes nothing.
+-- Document 01, audit, kind 9: the totals of the list that the shadows stand for, or 8 where they stand for none. The list is read back by readings,
+-- address by address; the shadows are an image exactly if that list may stand and has them as its image. Assumes nothing.
 use mathlib.Core.Bool.{Bool, true, false, not, _&&_}
 use mathlib.Core.List.{List, [], _∷_}
 use Prim.Native.Nat.{ℕ, zero, suc, _+_}

@@ -143,14 +143,14 @@ valid F m write a n from s =
     let q = reading F m s from in
     refuse F m s ((3, eqb n 0) ∷ (8, isDamaged r || isDamaged q) ∷ []) (s, yesNo (inOne n r && sameBlock r q && not (write && isLiteral r)))
 
--- ---- initialised, kind 7: the n bytes lie in one block, and the written bit of each is set
+-- ---- initialised, kind 7: one block has the n bytes, and all of them are written
 
 unfoldable pub initialised : Form → Map → (address n : ℕ) → Shadows → Shadows × Answer
 initialised F m a n s =
     let r = reading F m s a in
     refuse F m s ((3, eqb n 0) ∷ (8, isDamaged r) ∷ []) (s, yesNo (inOne n r && allMarked F m s a n))
 
--- ---- next, kind 8: the climb from the address through both areas ends at the first reading with offset 0, or at a damaged one
+-- ---- next, kind 8: from the address upwards, through both areas, to a block's first byte or to damage
 
 -- what is read here, or else what the addresses above come to
 abbrev pub stops : Reading → (above : Reading) → Reading

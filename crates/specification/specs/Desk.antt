@@ -11,7 +11,7 @@ use Rattle.specification.specs.Numbers.{byteOf, word, bitOf, ofBits, at}
 use Rattle.specification.specs.Map.{Map, mostHeap, mostStack, mostEnd, heapEnd, stackEnd, areApart, heapPosition, heapAt}
 use Rattle.specification.specs.Form.{Form}
 
--- ---- the map: heap start and size are multiples of 16, and the size is at least 32; every other rule is the player's
+-- ---- the map: of the heap start and size go by 16, and two segments are the least; every other rule is the player's
 
 unfoldable pub good : Map → Bool
 good m =
@@ -57,7 +57,7 @@ bitsAt m a = segmentOf m a + cond (ltb (a - segmentOf m a) 8) 8 9
 abbrev pub bitNumber : Map → (a : ℕ) → ℕ
 bitNumber m a = (a - segmentOf m a) % 8
 
--- the player's reading with 16 for 8, and the length in bytes 8 to 15 of the header
+-- the player's reading with 16 for 8; the length is the second number of the header
 unfoldable pub readDesk : Map → (heap : List ℕ) → (a : ℕ) → Reading
 readDesk m h a =
     let segment = segmentOf m a in

@@ -53,7 +53,7 @@ readHeap m h a =
     -- d = w − 1 is the segment's offset in its block. Damaged: it is no multiple of 8, or the base lies below heap start + 8
     (let d = w - 1 in
     cond (not (eqb (d % 8) 0) || ltb segment (m .«heap_start» + 8 + d)) damaged
-    -- the length stands in bytes 4 to 7 of the header before the base. Damaged: it is 0, or the block passes the area's end, or d is not below it
+    -- the length is the second number of the header, which ends at the base. Damaged: it is 0, or the block leaves the area, or d is not below it
     (let base = segment - d in
     let L = numberAt m h (base - 4) in
     cond (eqb L 0 || ltb (heapEnd m) (base + L) || leb L d) damaged

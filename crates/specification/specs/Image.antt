@@ -1,5 +1,4 @@
--- Document 01: the image of a list of blocks, which is what the two layouts give for its blocks, and zero in every other byte; and the lists that
--- have one. Assumes nothing.
+-- Document 01: which lists of blocks can stand in the areas, and the shadow bytes that stand for such a list: its image. Assumes nothing.
 use mathlib.Core.Bool.{Bool, true, cond, not, _&&_, _||_}
 use mathlib.Core.List.{List, [], _∷_}
 use Prim.Native.Nat.{ℕ, _+_, _%_}

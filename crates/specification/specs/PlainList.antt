@@ -1,5 +1,5 @@
 -- Document 01, the plain list, with S-1, S-2, S-5, S-6 and S-7: what each call answers and leaves, from the map, the call's arguments and the live
--- blocks alone. Under a good map and right lengths 1 and 2 do not arise, and 8 never does. Assumes nothing.
+-- blocks alone. It knows neither 1 and 2, since the map is good and the lengths are right, nor 8. Assumes nothing.
 use mathlib.Core.Bool.{Bool, cond, not, _&&_}
 use mathlib.Core.List.{List, [], _∷_}
 use mathlib.Core.Option.{Option, none, some}
@@ -27,7 +27,7 @@ abbrev pub nextFields : Option Block → Answer
 nextFields none = done
 nextFields (some b) = answer 0 (b .base) (len b) 0 0
 
--- of audit: heap blocks, stack blocks, live bytes, written bytes
+-- of audit: how many blocks in the heap and in the stack, how many bytes they have, how many of these are written
 abbrev pub totals : Map → List Block → Answer
 totals m bs = answer 0 (count (inHeap m) bs) (count (λ base. not (inHeap m base)) bs) (liveBytes bs) (writtenBytes bs)
 
@@ -45,7 +45,7 @@ refuseList bs numbers does = unless (firstOf numbers) bs does
 
 unfoldable pub onList : Form → Map → Call → List Block → List Block × Answer
 onList F m clear bs = ([], done)
--- 6: its footprint meets that of a listed block
+-- 6: footprints would meet
 onList F m (begin how base L) bs =
     refuseList bs
     ((3, eqb L 0) ∷ (4, not (fits F m (isForLiteral how) base L)) ∷ (5, inHeap m base && not (eqb (base % F .segment) 0)) ∷ (6, any (meets F m base L) bs) ∷ [])
@@ -62,7 +62,7 @@ onList F m (ask a) bs = refuseList bs ((4, outside m a) ∷ (7, not (any (contai
 onList F m (valid write a n from) bs =
     refuseList bs ((3, eqb n 0) ∷ []) (bs, yesNo (any (λ b. holds a n b && contains from b && not (write && b .literal)) bs))
 onList F m (initialised a n) bs = refuseList bs ((3, eqb n 0) ∷ []) (bs, yesNo (any (λ b. holds a n b && allWritten a n b) bs))
--- the list is in address order: the first block whose base is at or above the address
+-- the list is in address order, so that the first such block is the lowest
 onList F m (next a) bs = refuseList bs ((7, not (any (λ b. leb a (b .base)) bs)) ∷ []) (bs, nextFields (find (λ b. leb a (b .base)) bs))
 onList F m audit bs = (bs, totals m bs)
 onList F m (place L budget) bs =

@@ -1,6 +1,6 @@
--- What the requests S-1 to S-8 of document 02 promise of their own, beside the three demands, in which their calls are calls like the others. Of one form
--- F under one map m. (S-3 asks for a form of the code; S-4 is crates/specification_origins.) Proved for the player and the desk: crates/promises.
--- Assumes nothing.
+-- What the requests of document 02 promise of their own, beside the three demands, in which their calls are calls like the others. Of one form F under
+-- one map m; proved for the player and the desk: crates/promises. S-3 asks for a form of the code, S-4 is crates/specification_origins, and of S-8 the
+-- desk itself is Desk.antt, its example crates/specification_samples. Assumes nothing.
 use mathlib.Core.Path.{_≡_}
 use mathlib.Core.Logic.{_⊎_}
 use mathlib.Core.Bool.{Bool, true, false, not, cond}
@@ -22,12 +22,12 @@ use Rattle.specification.specs.Image.{image}
 use Rattle.specification.specs.Call.{call}
 use Rattle.specification.specs.Votes.{numberOf, Stands}
 
--- b is one of the blocks
+-- x is one of the elements
 abbrev pub Among : {X : Type 0} → X → List X → Type 0
 Among x [] = ⊥
 Among x (y ∷ ys) = (x ≡ y) ⊎ Among x ys
 
--- ---- S-1: a block whose bytes all count as written
+-- ---- S-1: kind 10
 
 pub record WrittenFromStart (F : Form) (m : Map) : Type 0 where
   -- kind 10 answers as record, on any input
@@ -110,7 +110,7 @@ abbrev pub surplusOf : Answer → ℕ
 surplusOf (answer k a b c d) = c
 
 pub record Places (F : Form) (m : Map) : Type 0 where
-  -- the gaps are exactly the runs of all-zero segments that no such segment adjoins, in address order, for any bytes
+  -- whatever the bytes are, the list has each gap, nothing else, and the lower ones first
   pub gaps-all : (s : Shadows) (i n : ℕ) → IsGap F m s i n → Among (gapOf F m i n) (gaps F m (heapOf s))
   pub gaps-only : (s : Shadows) (g : Gap) → Among g (gaps F m (heapOf s)) → (i : ℕ) × (n : ℕ) × IsGap F m s i n × (g ≡ gapOf F m i n)
   pub gaps-ordered : (s : Shadows) → Ascending (gaps F m (heapOf s))
@@ -135,7 +135,7 @@ abbrev pub BaseOf : (a : ℕ) → List Block → Type 0
 BaseOf a bs = (b : Block) × Among b bs × (b .base ≡ a)
 
 pub record Removals (F : Form) (m : Map) : Type 0 where
-  -- on any bytes free of a stack address is 15, remove of an address outside the stack 4
+  -- under a good map and right lengths, on any bytes, free of a stack address is 15, remove of an address outside the stack 4
   pub free-of-stack : F .good m ≡ true → (s : Shadows) → rightLengths m s ≡ true → (a : ℕ) → inStack m a ≡ true → call F m (free a) s ≡ (s, refusal 15)
   pub remove-elsewhere : F .good m ≡ true → (s : Shadows) → rightLengths m s ≡ true → (a : ℕ) → inStack m a ≡ false → call F m (remove a) s ≡ (s, refusal 4)
   -- free alters no byte of the stack's shadows, remove none of the heap's, on any input

@@ -22,8 +22,8 @@ pieceCode = 48
 unfoldable pub shortCode : (L offset : ℕ) → ℕ
 shortCode L offset = L * (L - 1) / 2 + offset + 1
 
--- a long block has ⌊L / 8⌋ pieces, at offsets 0, 8, 16, ..: the offset of the last one, which takes the remainder, and of the one that has the byte at
--- an offset
+-- a long block has a piece at each multiple of 8, ⌊L / 8⌋ in all, and what remains joins the last. The offset of the last piece, and of the one that has
+-- the byte at an offset
 abbrev pub lastPiece : (L : ℕ) → ℕ
 lastPiece L = 8 * (L / 8 - 1)
 

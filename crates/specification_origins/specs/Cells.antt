@@ -36,7 +36,7 @@ shadowOf m x a = cond (inHeap m a) (heapCells x) (stackCells x)
 abbrev pub startOf : Map → (a : ℕ) → ℕ
 startOf m a = cond (inHeap m a) (m .«heap_start») (m .«stack_start»)
 
--- the position of the cell's eight bytes. The area's start is a multiple of 8, so that a cell begins at a position that is a multiple of 4
+-- the position of the cell's eight bytes. Under a good map the area's start is a multiple of 8, so that a cell begins at a multiple of 4 by position too
 abbrev pub cellAt : Map → (a : ℕ) → ℕ
 cellAt m a = let p = a - startOf m a in 2 * (p - p % 4)
 

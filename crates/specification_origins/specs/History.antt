@@ -1,5 +1,5 @@
--- S-4: kind 13 judged by the history of calls: whether the very allocation that the pointer was last set to is live and holds the address. What is said
--- here follows from the history and from nothing else: no origin, no counter and no cell's content occurs. Assumes nothing.
+-- S-4: what kind 13 must answer, judged by the calls that were made and whether each was accepted. Nothing else is looked at: no origin, no counter and no
+-- cell's content occurs here. Assumes nothing.
 use mathlib.Core.Bool.{Bool, true, false, cond, _&&_, _||_}
 use mathlib.Core.List.{List, [], _∷_}
 use mathlib.Core.Option.{Option, none, some}

@@ -1,5 +1,5 @@
--- S-4: the plain list, which also carries the counter, the origin of each block and the referent of each set pointer. What each call answers and
--- leaves, from the map, the arguments and the list alone. Assumes nothing.
+-- S-4: the plain list with counter, origins and referents. What each call answers and leaves, from the map, the arguments and the list alone.
+-- Assumes nothing.
 use mathlib.Core.Bool.{Bool, cond, not, _&&_, _||_}
 use mathlib.Core.List.{List, [], _∷_}
 use mathlib.Core.Option.{Option, none, some}
@@ -76,6 +76,6 @@ onOrigins m (live c a) x =
     unless (firstOf ((4, outside m c) ∷ (11, noPointer x c) ∷ [])) x
     (x, yesNo (not (eqb (x .referent c) 0) && eqb (originHeld x a) (x .referent c)))
 
--- the image is the plain form's, over the three block shadows; beside it that of the cells, and the counter
+-- of the blocks the plain form's image; beside it the image of the cells, and the counter
 abbrev pub imageOf : Map → OriginList → Lent
 imageOf m x = record { shadows = image player m (x .blocks); cells = cellsImage m (x .origin) (x .referent); counter = x .counter }

@@ -84,8 +84,9 @@ unfoldable pub historyOf : Map → Lent → (before : History) → List Call →
 historyOf m x h [] = h
 historyOf m x h (c ∷ cs) = historyOf m (call m c x .0) ((c, eqb (numberOf m c x) 0) ∷ h) cs
 
--- what a list carries: blocks that may stand; an origin for each live block's base, from 1 to below the counter, all different, and for nothing else; a
--- referent only in a cell whose four bytes lie in one block, below the counter
+-- what a list carries: blocks that may stand, at multiples of 4; an origin for each live block's base, from 1 to below the counter, all different, and
+-- for nothing else; a referent only in a cell, a multiple of 4, whose four bytes lie in one block, below the counter; a counter from 1 to one past the
+-- last origin
 pub record Carries (m : Map) (x : OriginList) : Type 0 where
   pub stands : mayStand player m 0 (x .blocks) ≡ true
   pub based : (b : ℕ) → any (hasBase b) (x .blocks) ≡ true → (b % 4 ≡ 0) × (1 ≤ x .origin b) × (x .origin b < x .counter)
@@ -105,7 +106,7 @@ pub record ThirdVote (m : Map) : Type 0 where
   pub image-run : good m ≡ true → (x : OriginList) → Carries m x → (cs : List Call) → lentRun m (imageOf m x) cs ≡ listRun m x cs
   pub first-carries : (k : ℕ) → 1 ≤ k → k ≤ suc lastOrigin → Carries m (firstList k)
   pub stays-carried : good m ≡ true → (x : OriginList) → Carries m x → (c : Call) → Carries m (onOrigins m c x .0)
-  -- the cells hold a live block's origin at its base, a set pointer's referent at its own cell, and zero elsewhere, wherever the counter stood at first
+  -- each cell holds the origin and the referent that the list has for it, which is 0 where it has none (Carries), wherever the counter stood at first
   pub cells-hold : good m ≡ true → (k : ℕ) → 1 ≤ k → k ≤ suc lastOrigin → (cs : List Call) (c : ℕ) → outside m c ≡ false → c % 4 ≡ 0
       → (originAt m (reached m (first m k) cs .cells) c ≡ listReached m (firstList k) cs .origin c)
       × (referentAt m (reached m (first m k) cs .cells) c ≡ listReached m (firstList k) cs .referent c)

@@ -1,4 +1,4 @@
--- S-6: a run of all-zero heap shadow segments that no such segment adjoins. Assumes nothing.
+-- S-6: a gap of the heap, a longest run of free segments. Assumes nothing.
 use Prim.Native.Nat.{ℕ}
 
 -- the address of its first segment, and its bytes

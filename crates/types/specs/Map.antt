@@ -1,2 +1,2 @@
--- The map of the areas: the code's struct of four 32-bit numbers, `heap_start`, `heap_size`, `stack_start` and `stack_size`. Assumes nothing.
+-- The map of the areas: a struct of the code, whose 32-bit fields are `heap_start`, `heap_size`, `stack_start` and `stack_size`. Assumes nothing.
 pub use Rattle.map.specs.declared.Map.{Map}

@@ -1,14 +1,14 @@
--- Request S-6, samples of place: on given shadows under the sample map (heap 4096 to 4159, eight segments), in a run, and at the end of all addresses.
--- `PlaceSamplesHold` says that they hold.
--- Proved in proofs/Samples.antt. Assumes nothing.
+-- S-6, samples of place: on given shadows under the sample map (heap 4096 to 4159, eight segments), in a run, and at the end of all addresses. Proved
+-- in proofs/Samples.antt. Assumes nothing.
 use mathlib.Core.Path.{_≡_}
 use mathlib.Core.Bool.{true}
 use mathlib.Core.List.{List, [], _∷_}
 use Prim.Native.Nat.{ℕ}
-use Rattle.map.specs.FormMap.{FormMap, player}
-use Rattle.plain.specs.Call.{record-block, free, audit, place, Answer, answer, refusal, done}
-use Rattle.demands.specs.GivenShadows.{Given, Part, allGiven}
-use Rattle.demands.specs.Samples.{Sample, sampleMap, one, zeros8, allHold}
+use Rattle.types.specs.Call.{record-block, free, audit, place, Answer, answer, refusal, done}
+use Rattle.specification.specs.Map.{Map}
+use Rattle.specification.specs.Heap.{player}
+use Rattle.specification_samples.specs.Samples.{Part, Sample, mapOf, sampleMap, allHold, one, zeros8}
+use Rattle.specification_samples.specs.GivenShadows.{Given, allGiven}
 
 -- heap shadow bytes that are 1, and place of a length with a budget
 abbrev ones : List ℕ → List Part
@@ -85,12 +85,12 @@ placesInRun =
     ∷ []
 
 -- a heap of two segments at the end of all addresses
-abbrev pub topMap : FormMap
-topMap = player (record { «heap_start» = 4294967272; «heap_size» = 16; «stack_start» = 8192; «stack_size» = 16 })
+abbrev pub topMap : Map
+topMap = mapOf 4294967272 16 8192 16
 
 unfoldable pub placesAtTop : List Sample
 placesAtTop = one (place 8 1) (answer 0 4294967280 1 0 0) ∷ one (place 9 1) (refusal 14) ∷ one (place 4294967295 1) (refusal 14) ∷ []
 
 -- every sample holds
 abbrev pub PlaceSamplesHold : Type 0
-PlaceSamplesHold = (allGiven sampleMap places ≡ true) × (allHold sampleMap placesInRun ≡ true) × (allHold topMap placesAtTop ≡ true)
+PlaceSamplesHold = (allGiven player sampleMap places ≡ true) × (allHold player sampleMap placesInRun ≡ true) × (allHold player topMap placesAtTop ≡ true)

@@ -1,25 +1,31 @@
--- Request S-8, tables of samples of the desk: segments of 16 bytes, numbers of eight. Under the desk's sample map: heap 4096 to 4159, four segments;
--- stack 8192 to 8223. Proved in proofs/DeskSamples.antt. Assumes nothing.
+-- S-8, samples of the desk: segments of 16 bytes, numbers of eight. Under the sample map the heap, 4096 to 4159, has four segments; the stack is 8192 to
+-- 8223. Proved in proofs/Samples.antt, the example of source 000 in proofs/DeskExample.antt, maps in proofs/MapSamples.antt. Assumes nothing.
 use mathlib.Core.Path.{_≡_}
 use mathlib.Core.Bool.{true}
 use mathlib.Core.List.{List, [], _∷_, _++_}
 use Prim.Native.Nat.{ℕ}
 use Rattle.number.specs.Parts.{Each}
-use Rattle.map.specs.declared.Map.{Map}
-use Rattle.map.specs.FormMap.{FormMap, desk, areas}
-use Rattle.plain.specs.Call.{Call, clear, record-block, record-written, record-literal, free, remove, written, ask, valid-write, valid-read, initialised, next, audit, place, Answer, answer, refusal, done}
-use Rattle.shadows.specs.Shadows.{Shadows}
-use Rattle.monitor_base.specs.Calls.{call}
-use Rattle.demands.specs.GivenShadows.{Part, Given, allGiven}
-use Rattle.demands.specs.MapSamples.{mapOf, zerosOf}
-use Rattle.demands.specs.Samples.{Sample, allHold, one, zeros8}
+use Rattle.types.specs.Call.{Call, clear, record-block, record-written, record-literal, free, remove, written, ask, valid-write, valid-read, initialised, next, audit, place, Answer, answer, refusal, done}
+use Rattle.specification.specs.Map.{Map, Shadows, inHeap}
+use Rattle.specification.specs.Desk.{desk}
+use Rattle.specification.specs.Call.{call}
+use Rattle.specification.specs.Votes.{numberOf}
+use Rattle.specification_samples.specs.Samples.{Part, Sample, mapOf, sampleMap, allHold, one, zeros8}
+use Rattle.specification_samples.specs.GivenShadows.{Given, allGiven}
+use Rattle.specification_samples.specs.MapSamples.{zerosOf}
 
-abbrev pub deskMap : FormMap
-deskMap = desk (mapOf 4096 64 8192 32)
+-- ---- the example of source 000: a block of 40 bytes at 0x100, in which 0x126 has offset 0x26; 0x12A is in no block
 
--- the heap of source 000: 0xF0 to 0x12F
-abbrev pub exampleMap : FormMap
-exampleMap = desk (mapOf 240 64 8192 32)
+-- on whatever shadows and under whatever map such a block is recorded in the heap
+abbrev pub DeskExample : Type 0
+DeskExample =
+    (m : Map) (s : Shadows) → numberOf desk m (record-block 256 40) s ≡ 0 → inHeap m 256 ≡ true
+    → let after = call desk m (record-block 256 40) s .0 in
+    (call desk m (ask 294) after .1 ≡ answer 0 256 40 38 0) × (call desk m (ask 298) after .1 ≡ refusal 7)
+
+-- a heap for it: 0xF0 to 0x12F
+abbrev pub exampleMap : Map
+exampleMap = mapOf 240 64 8192 32
 
 -- ---- runs from cleared shadows
 
@@ -38,7 +44,7 @@ header l = zeros8 ++ eight l
 abbrev leaves : List Call → List Answer → List ℕ → Sample
 leaves cs rs h = record { calls = cs; answers = rs; heap = (0, h); primary = (0, []); secondary = (0, []) }
 
--- the example of source 000: offset 0x26 at 0x126, no block at 0x12A
+-- the example, with its bytes
 unfoldable pub example : List Sample
 example =
     leaves (record-block 256 40 ∷ ask 294 ∷ ask 298 ∷ ask 240 ∷ ask 255 ∷ []) (done ∷ answer 0 256 40 38 0 ∷ refusal 7 ∷ refusal 7 ∷ refusal 7 ∷ [])
@@ -188,8 +194,8 @@ deskGiven =
 
 -- ---- numbers above 255, under a map whose heap has 320 bytes
 
-abbrev pub largerDesk : FormMap
-largerDesk = desk (mapOf 4096 320 8192 32)
+abbrev pub largerDesk : Map
+largerDesk = mapOf 4096 320 8192 32
 
 -- a block of 300, 17 of its bytes from offset 256 on written, and the heap shadow from a position on
 abbrev longDesk : (position : ℕ) → List ℕ → Sample
@@ -213,20 +219,21 @@ deskLarger =
 
 abbrev pub DeskSamplesHold : Type 0
 DeskSamplesHold =
-    (allHold exampleMap example ≡ true) × (allHold deskMap deskRuns ≡ true) × (allGiven deskMap deskGiven ≡ true) × (allHold largerDesk deskLarger ≡ true)
+    (allHold desk exampleMap example ≡ true) × (allHold desk sampleMap deskRuns ≡ true) × (allGiven desk sampleMap deskGiven ≡ true)
+    × (allHold desk largerDesk deskLarger ≡ true)
 
 -- ---- maps
 
 -- each breaks one rule
 unfoldable pub deskBadMaps : List Map
 deskBadMaps =
-    -- "Heap start and size are multiples of 16": multiples of 8 that are none
+    -- 16 divides the heap's start and size: multiples of 8 and others
     mapOf 4104 64 8192 32
     ∷ mapOf 4096 72 8192 32
     ∷ mapOf 8 64 8192 32
     ∷ mapOf 4097 64 8192 32
     ∷ mapOf 4096 65 8192 32
-    -- "the size at least 32", at most 131,072
+    -- the heap's sizes, from 32 to 131,072
     ∷ mapOf 4096 0 8192 32
     ∷ mapOf 4096 16 8192 32
     ∷ mapOf 4096 131088 262144 32
@@ -248,8 +255,8 @@ deskBadMaps =
 -- and these none, at the edges
 unfoldable pub deskGoodMaps : List Map
 deskGoodMaps =
-    areas deskMap
-    ∷ areas exampleMap
+    sampleMap
+    ∷ exampleMap
     ∷ mapOf 16 32 8192 32
     ∷ mapOf 4112 48 8192 32
     ∷ mapOf 4096 131072 262144 65536
@@ -265,5 +272,5 @@ deskGoodMaps =
 -- 1 for every call on any shadows under a map that breaks a rule; under a good one 2 for every call on shadows without bytes
 abbrev pub DeskMapSamplesHold : Type 0
 DeskMapSamplesHold =
-    Each (λ (m : Map). (c : Call) (s : Shadows) → call (desk m) c s ≡ (s, refusal 1)) deskBadMaps
-    × Each (λ (m : Map). (c : Call) → call (desk m) c (zerosOf 0 0 0) ≡ (zerosOf 0 0 0, refusal 2)) deskGoodMaps
+    Each (λ (m : Map). (c : Call) (s : Shadows) → call desk m c s ≡ (s, refusal 1)) deskBadMaps
+    × Each (λ (m : Map). (c : Call) → call desk m c (zerosOf 0 0 0) ≡ (zerosOf 0 0 0, refusal 2)) deskGoodMaps

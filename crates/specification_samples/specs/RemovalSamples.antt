@@ -1,10 +1,11 @@
--- A table of samples of free and remove in both areas. 15, and 4 of remove, follow from arguments and map, which the plain list and the shadows share:
--- these decide them beside Removals.antt. Under the sample map: heap 4096 to 4159, stack 8192 to 8223. Proved in proofs/Samples.antt. Assumes nothing.
+-- S-7, a table of samples of free and remove in both areas. Under the sample map: heap 4096 to 4159, stack 8192 to 8223. Proved in
+-- proofs/Samples.antt. Assumes nothing.
 use mathlib.Core.Path.{_≡_}
 use mathlib.Core.Bool.{true}
 use mathlib.Core.List.{List, [], _∷_, _++_}
-use Rattle.plain.specs.Call.{record-block, record-written, record-literal, free, remove, ask, initialised, audit, answer, refusal, done}
-use Rattle.demands.specs.Samples.{Sample, sampleMap, allHold, one, zeros8}
+use Rattle.types.specs.Call.{record-block, record-written, record-literal, free, remove, ask, initialised, audit, answer, refusal, done}
+use Rattle.specification.specs.Heap.{player}
+use Rattle.specification_samples.specs.Samples.{Sample, sampleMap, allHold, one, zeros8}
 
 unfoldable pub removals : List Sample
 removals =
@@ -63,4 +64,4 @@ removals =
 
 -- every sample holds
 abbrev pub RemovalSamplesHold : Type 0
-RemovalSamplesHold = allHold sampleMap removals ≡ true
+RemovalSamplesHold = allHold player sampleMap removals ≡ true

@@ -1,14 +1,15 @@
--- Tables of samples for 8: shadows that decide each clause of "damaged if", beside shadows at the clause's edge that are read as a block, and
+-- Tables of samples for 8: shadows that decide each condition under which a reading is damaged, beside shadows at its edge that are read as a block, and
 -- what each call makes of damage; with those of ByteSamples.antt. Under the sample map: heap 4096 to 4159, stack 8192 to 8223. Proved in
 -- proofs/Samples.antt. Assumes nothing.
 use mathlib.Core.Path.{_≡_}
 use mathlib.Core.Bool.{true}
 use mathlib.Core.List.{List, [], _∷_}
 use Prim.Native.Nat.{ℕ, _+_, _*_, _-_}
-use Rattle.plain.specs.Call.{Call, record-block, record-literal, free, remove, written, ask, valid-write, valid-read, initialised, next, audit, Answer, answer, refusal, done}
-use Rattle.demands.specs.GivenShadows.{Given, allGiven}
-use Rattle.demands.specs.Samples.{sampleMap}
-use Rattle.demands.specs.ByteSamples.{numbers, disagreeing}
+use Rattle.types.specs.Call.{Call, record-block, record-literal, free, remove, written, ask, valid-write, valid-read, initialised, next, audit, Answer, answer, refusal, done}
+use Rattle.specification.specs.Heap.{player}
+use Rattle.specification_samples.specs.Samples.{sampleMap}
+use Rattle.specification_samples.specs.GivenShadows.{Given, allGiven}
+use Rattle.specification_samples.specs.ByteSamples.{numbers, disagreeing}
 
 -- ---- readings
 
@@ -49,7 +50,7 @@ readings =
     header 20 8 0 (refusal 7)
     ∷ header 20 8 1 (answer 0 4104 20 0 0)
     ∷ header 20 16 9 (answer 0 4104 20 8 0)
-    -- "w − 1 is no multiple of 8": each of these would tell a block of 9 that holds 4120
+    -- an offset w − 1 that 8 does not divide: each of these would tell a block of 9 that holds 4120
     ∷ told 1 0 (answer 0 4120 9 0 0)
     ∷ told 2 0 (refusal 8)
     ∷ told 3 0 (refusal 8)
@@ -63,7 +64,7 @@ readings =
     ∷ told 9 1 (refusal 7)
     ∷ told 8 2 (refusal 8)
     ∷ told 5 5 (refusal 8)
-    -- "base < heap start + 8": these tell base 0, before which there is no header; 20 stands where the first header has its length
+    -- a base in the first segment or below: these tell base 0, before which there is no header; 20 stands where the first header has its length
     ∷ record { heap = (0, 1 ∷ 0 ∷ 0 ∷ 0 ∷ 20 ∷ []) ∷ []; primary = []; secondary = []; asks = ask 4096; gets = refusal 8 }
     ∷ header 20 8 9 (refusal 8)
     ∷ header 20 16 17 (refusal 8)
@@ -73,17 +74,17 @@ readings =
     ∷ record { heap = (4, 9 ∷ []) ∷ (8, 9 ∷ []) ∷ []; primary = []; secondary = []; asks = ask 4105; gets = refusal 8 }
     -- the greatest w: its base is far below 0, and w − 1 is no multiple of 8 and above L too
     ∷ record { heap = (4, 20 ∷ []) ∷ (8, 255 ∷ 255 ∷ 255 ∷ 255 ∷ []) ∷ []; primary = []; secondary = []; asks = ask 4104; gets = refusal 8 }
-    -- "L = 0", where w − 1 ≥ L holds too
+    -- length 0, which no offset is below either
     ∷ header 0 8 1 (refusal 8)
-    -- "base + L passes the area's end"
+    -- a block up to the heap's last byte, and one byte past it
     ∷ header 56 8 1 (answer 0 4104 56 0 0)
     ∷ header 57 8 1 (refusal 8)
-    -- "w − 1 ≥ L"
+    -- a segment that begins at the block's last byte, and right after it
     ∷ header 9 16 9 (answer 0 4104 9 8 0)
     ∷ header 8 16 9 (refusal 8)
-    -- "If offset ≥ L, no block"
+    -- past the end, in the last segment of the block
     ∷ record { heap = (4, 9 ∷ []) ∷ (16, 9 ∷ []) ∷ []; primary = []; secondary = []; asks = ask 4113; gets = refusal 7 }
-    -- stack: a set bit 1 is "damage only with code 0", with and without the written bit; ask does not tell it
+    -- stack: bit 1 damages where the code is 0 and nowhere else, with and without the written bit; ask does not tell it
     ∷ byte 4 0 (answer 0 8192 1 0 0)
     ∷ byte 5 0 (answer 0 8192 1 0 1)
     ∷ byte 6 0 (answer 0 8192 1 0 0)
@@ -99,10 +100,10 @@ readings =
     ∷ onNine (4 * 37 + 3) 0 (refusal 8)
     ∷ onNine (4 * 47 + 3) 1 (refusal 8)
     ∷ byte (4 * 63 + 3) 15 (refusal 8)
-    -- "code 0 stands with a written bit"
+    -- code 0 without the written bit, and with it
     ∷ byte 0 0 (refusal 7)
     ∷ byte 1 0 (refusal 8)
-    -- "the code is 37 to 47 or 63": where the formula for L of 1 to 8 would give a block of 9, or of 10, that begins at 8192
+    -- codes of no length, between 36 and 48 and after 62: where Table 1, carried on past 8, would give a block of 9, or of 10, that begins at 8192
     ∷ coded 36 7 (answer 0 8192 8 7 0)
     ∷ onNine (4 * 37) 0 (refusal 8)
     ∷ onNine (4 * 38) 1 (refusal 8)
@@ -117,7 +118,7 @@ readings =
     ∷ onNine (4 * 47) 1 (refusal 8)
     ∷ onNine (4 * 48) 1 (answer 0 8193 9 0 0)
     ∷ coded 63 15 (refusal 8)
-    -- "the block found does not fit the area": a short one at either end
+    -- a block that does not lie in the area: a short one at either end
     ∷ coded 36 6 (refusal 8)
     ∷ coded 2 30 (answer 0 8222 2 0 0)
     ∷ coded 2 31 (refusal 8)
@@ -126,17 +127,17 @@ readings =
     ∷ piece 33 0 0 0 (refusal 8)
     ∷ piece 20 8 8 0 (answer 0 8192 20 8 0)
     ∷ piece 20 8 7 0 (refusal 8)
-    -- "the eight secondary bytes leave the area", at either end
+    -- a piece whose length and offset would stand past either end of the area
     ∷ coded 48 25 (refusal 8)
     ∷ coded 49 0 (refusal 8)
-    -- "L < 9"
+    -- the least length of a long block, and one less
     ∷ piece 9 0 0 0 (answer 0 8192 9 0 0)
     ∷ piece 8 0 0 0 (refusal 8)
-    -- "o is no multiple of 8"
+    -- an offset of a piece that 8 does not divide
     ∷ piece 20 1 1 0 (refusal 8)
     ∷ piece 20 2 2 0 (refusal 8)
     ∷ piece 20 4 4 0 (refusal 8)
-    -- "o + 8 > L", in whole numbers
+    -- a piece has eight bytes of its block at least; the sum does not wrap
     ∷ piece 16 8 8 0 (answer 0 8192 16 8 0)
     ∷ piece 15 8 8 0 (refusal 8)
     ∷ record {
@@ -146,10 +147,10 @@ readings =
       asks = ask 8192;
       gets = refusal 8;
     }
-    -- "j > 7 in a piece other than the last"
+    -- a ninth byte in the last piece, and in one before it
     ∷ piece 15 0 0 8 (answer 0 8192 15 8 0)
     ∷ piece 16 0 0 8 (refusal 8)
-    -- "o + j ≥ L"
+    -- the last byte of a block, and one past it
     ∷ piece 9 0 0 8 (answer 0 8192 9 8 0)
     ∷ piece 9 0 0 9 (refusal 8)
     ∷ []
@@ -220,5 +221,5 @@ callsOnDamage =
 -- every sample holds
 abbrev pub DamageSamplesHold : Type 0
 DamageSamplesHold =
-    (allGiven sampleMap readings ≡ true) × (allGiven sampleMap numbers ≡ true) × (allGiven sampleMap callsOnDamage ≡ true)
-    × (allGiven sampleMap disagreeing ≡ true)
+    (allGiven player sampleMap readings ≡ true) × (allGiven player sampleMap numbers ≡ true) × (allGiven player sampleMap callsOnDamage ≡ true)
+    × (allGiven player sampleMap disagreeing ≡ true)

@@ -1,10 +1,11 @@
--- A table of samples of literals. How a block begins, and what refuses it, is shared by the plain list and the shadows, and so decided by reading, by
--- these, and by Literals.antt. Under the sample map: heap 4096 to 4159, stack 8192 to 8223. Proved in proofs/Samples.antt. Assumes nothing.
+-- S-5, a table of samples of literals: their bytes, and what each call makes of them. Under the sample map: heap 4096 to 4159, stack 8192 to 8223.
+-- Proved in proofs/Samples.antt. Assumes nothing.
 use mathlib.Core.Path.{_≡_}
 use mathlib.Core.Bool.{true}
 use mathlib.Core.List.{List, [], _∷_}
-use Rattle.plain.specs.Call.{record-block, record-literal, remove, written, ask, valid-write, valid-read, initialised, next, audit, answer, refusal, done}
-use Rattle.demands.specs.Samples.{Sample, sampleMap, allHold, one, zeros8}
+use Rattle.types.specs.Call.{record-block, record-literal, remove, written, ask, valid-write, valid-read, initialised, next, audit, answer, refusal, done}
+use Rattle.specification.specs.Heap.{player}
+use Rattle.specification_samples.specs.Samples.{Sample, sampleMap, allHold, one, zeros8}
 
 unfoldable pub literals : List Sample
 literals =
@@ -31,7 +32,7 @@ literals =
       primary = (2, 0 ∷ 195 ∷ 199 ∷ 203 ∷ 207 ∷ 211 ∷ 215 ∷ 219 ∷ 223 ∷ 227 ∷ 231 ∷ 235 ∷ 0 ∷ []);
       secondary = (3, 11 ∷ 0 ∷ 0 ∷ 0 ∷ 0 ∷ 0 ∷ 0 ∷ 0 ∷ 0 ∷ 0 ∷ 0 ∷ []);
     }
-    -- valid goes by the address and comes after 3; valid_read does not ask
+    -- of a literal valid says no when it is to be written, by the block of the address, and yes when it is to be read; 3 comes before either
     ∷ record {
       calls =
           record-literal 8192 4 ∷ valid-write 8192 4 8192 ∷ valid-read 8192 4 8192 ∷ valid-write 8192 0 8192 ∷ valid-read 8192 0 8192 ∷ record-block 8196 4
@@ -67,4 +68,4 @@ literals =
 
 -- every sample holds
 abbrev pub LiteralSamplesHold : Type 0
-LiteralSamplesHold = allHold sampleMap literals ≡ true
+LiteralSamplesHold = allHold player sampleMap literals ≡ true

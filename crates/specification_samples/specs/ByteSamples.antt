@@ -1,9 +1,9 @@
 -- Tables of samples for what each byte counts: every byte of the numbers of four, and bytes that do not agree with each other. Under the sample
--- map: heap 4096 to 4159, stack 8192 to 8223. `DamageSamplesHold` says that they hold. Assumes nothing.
+-- map: heap 4096 to 4159, stack 8192 to 8223. `DamageSamplesHold` (DamageSamples.antt) says that they hold. Assumes nothing.
 use mathlib.Core.List.{List, [], _∷_}
 use Prim.Native.Nat.{ℕ}
-use Rattle.plain.specs.Call.{Call, written, ask, valid-write, valid-read, initialised, audit, Answer, answer, refusal}
-use Rattle.demands.specs.GivenShadows.{Given}
+use Rattle.types.specs.Call.{Call, written, ask, valid-write, valid-read, initialised, audit, Answer, answer, refusal}
+use Rattle.specification_samples.specs.GivenShadows.{Given}
 
 -- ---- numbers of four bytes, and whole-number sums
 
@@ -64,7 +64,7 @@ unnumbered x c r =
 
 unfoldable pub disagreeing : List Given
 disagreeing =
-    -- "Two readings give the same block when base and length are equal": 8 is the first byte of 2, 20 the second of 3, both from 8192 on
+    -- blocks of one base and two lengths are two: 8 is the first byte of 2, 20 the second of 3, both from 8192 on
     two 8 20 (ask 8192) (answer 0 8192 2 0 0)
     ∷ two 8 20 (ask 8193) (answer 0 8192 3 1 0)
     ∷ two 8 20 (valid-write 8192 1 8193) (answer 0 0 0 0 0)

@@ -1,0 +1,10 @@
+pub mod Samples
+pub mod EdgeSamples
+pub mod LiteralSamples
+pub mod GivenShadows
+pub mod PlaceSamples
+pub mod RemovalSamples
+pub mod MapSamples
+pub mod ByteSamples
+pub mod DamageSamples
+pub mod DeskSamples
