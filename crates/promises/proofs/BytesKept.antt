@@ -29,7 +29,7 @@ use Rattle.specification.specs.Votes.{AllBytes}
 
 -- ---- a list of bytes
 
-byte-at : (h : List ℕ) → Bytes h → (q : ℕ) → at h q < 256
+pub byte-at : (h : List ℕ) → Bytes h → (q : ℕ) → at h q < 256
 byte-at [] b q = omega arith
 byte-at (x ∷ h) b zero = b .0
 byte-at (x ∷ h) b (suc q) = byte-at h (b .1) q
@@ -39,11 +39,11 @@ set-bytes [] b q v l = tt
 set-bytes (x ∷ h) b zero v l = (l, b .1)
 set-bytes (x ∷ h) b (suc q) v l = (b .0, set-bytes h (b .1) q v l)
 
-over-bytes : (a n : ℕ) (f : ℕ → ℕ) (h : List ℕ) → ((q : ℕ) → f q < 256) → Bytes h → Bytes (over a n f h)
+pub over-bytes : (a n : ℕ) (f : ℕ → ℕ) (h : List ℕ) → ((q : ℕ) → f q < 256) → Bytes h → Bytes (over a n f h)
 unfolding over
 over-bytes a n f h l b = bytes-tab _ (λ q. cond-both (λ (x : ℕ). x < 256) (inPart a n q) (f q) (at h q) (l q) (byte-at h b q)) _ 0
 
-zero-bytes : (n : ℕ) → Bytes (replicate n 0)
+pub zero-bytes : (n : ℕ) → Bytes (replicate n 0)
 zero-bytes zero = tt
 zero-bytes (suc n) = (omega arith, zero-bytes n)
 

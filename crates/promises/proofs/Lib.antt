@@ -10,3 +10,4 @@ pub mod RequestVotes
 pub mod OriginsFirst
 pub mod OriginsHistory
 pub mod OriginsVotes
+pub mod PointerVote

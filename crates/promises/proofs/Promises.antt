@@ -22,6 +22,7 @@ use Rattle.promises.proofs.SecondVote.{player-second, desk-second}
 use Rattle.promises.proofs.ThirdVote.{third-vote}
 use Rattle.promises.proofs.RequestVotes.{written-from-start, free-of-null, literals, places, removals}
 use Rattle.promises.proofs.OriginsVotes.{origins-first-vote, origins-third-vote}
+use Rattle.promises.proofs.PointerVote.{pointer-vote}
 
 pub promises : Promises
 promises =
@@ -44,6 +45,7 @@ promises =
       desk-places = places Desk;
       desk-removals = removals Desk;
       origins-first = origins-first-vote;
+      origins-pointers = λ m. pointer-vote m (origins-first-vote m);
       origins-third = origins-third-vote;
       counter-counts = counter-counts;
       origins-samples-hold = origins-samples.samples-hold;

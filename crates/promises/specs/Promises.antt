@@ -53,6 +53,7 @@ pub record Promises : Type 0 where
   pub desk-removals : (m : Map) → Removals desk m
   -- ---- S-4: the form with origins (specification_origins, Votes.antt)
   pub origins-first : (m : Map) → origins.FirstVote m
+  pub origins-pointers : (m : Map) → origins.PointerVote m
   pub origins-third : (m : Map) → origins.ThirdVote m
   -- the counter goes up by one for each accepted recording; samples: the first counter, the bytes of a number, numbers at their edges, runs
   pub counter-counts : CounterCounts

@@ -1,4 +1,4 @@
--- Document 01, the plain list: blocks and lists of them. A block holds the addresses from its base on, as many as its length. Assumes nothing.
+-- Document 01, the plain list: blocks and lists of them. A block holds as many addresses as it has bytes, from its base on. Assumes nothing.
 use mathlib.Core.Bool.{Bool, true, false, cond, _&&_, _||_}
 use mathlib.Core.List.{List, [], _∷_}
 use mathlib.Core.Option.{Option, none, some}

@@ -18,8 +18,8 @@ use Rattle.specification.specs.Stack.{primaryByte, secondaryByte}
 use Rattle.specification.specs.Readings.{reading, isDamaged, isBlock, isFirst, inOne, sameBlock, isLiteral, lengthOf}
 use Rattle.specification.specs.Footprint.{placeStart, placeLength, fits}
 
--- 1, a map that breaks a rule, and 2, a shadow of another length than its area's, come before the call's own numbers. A refused call alters no byte,
--- and its fields are zero
+-- 1, a map that breaks a rule, and 2, a shadow of another length than its area's, come before the call's own numbers. A refused call changes nothing, and
+-- its fields are zero
 abbrev pub refuse : Form → Map → Shadows → List Refusal → Shadows × Answer → Shadows × Answer
 refuse F m s own does = unless (firstOf ((1, not (F .good m)) ∷ (2, not (rightLengths m s)) ∷ own)) s does
 
@@ -41,7 +41,7 @@ isForLiteral Unwritten = false
 isForLiteral Written = false
 isForLiteral Literal = true
 
--- every shadow byte of the place is zero: in the heap header and segments, in the stack primary and secondary of the range
+-- no shadow byte of the place is set: of header and segments in the heap, of both shadows in the stack
 unfoldable pub vacant : Form → Map → Shadows → (base L : ℕ) → Bool
 vacant F m s base L =
     cond (inHeap m base) (zeros (at (heapOf s)) (heapPosition m (placeStart F base)) (placeLength F L))
@@ -81,7 +81,7 @@ free F m base s =
     cond (eqb base 0) (refuse F m s [] (s, done))
     (refuse F m s ((4, outside m base) ∷ (15, inStack m base) ∷ (8, isDamaged r) ∷ (7, not (isFirst r)) ∷ []) (freed F m s base (lengthOf r), done))
 
--- ---- S-7: remove, kind 16, does with a block of the stack what free once did
+-- ---- S-7: remove, kind 16: both shadows of a stack block become zero
 
 abbrev pub removed : Map → Shadows → (base L : ℕ) → Shadows
 removed m s base L =
@@ -92,7 +92,7 @@ remove F m base s =
     let r = reading F m s base in
     refuse F m s ((4, not (inStack m base)) ∷ (8, isDamaged r) ∷ (7, not (isFirst r)) ∷ []) (removed m s base (lengthOf r), done)
 
--- ---- written, kind 4: n bytes of one block become written, and only their written bits change. S-5: 13 in a literal
+-- ---- written, kind 4: n bytes of one block become written, by their bits alone. S-5: 13 in a literal
 
 -- the written bit of an address: in the heap a bit of its segment's written bits, in the stack bit 0 of its primary byte
 abbrev pub isMarked : Form → Map → Shadows → (a : ℕ) → Bool
@@ -108,11 +108,12 @@ markOne F m s a =
     (shadows (set (heapOf s) p (withBit (at (heapOf s) p) (F .bitNumber m a))) (primaryOf s) (secondaryOf s))
     (shadows (heapOf s) (set (primaryOf s) q (at (primaryOf s) q / 2 * 2 + 1)) (secondaryOf s))
 
--- of the n addresses from a on
+-- the n addresses from a on become marked
 unfoldable pub markAll : Form → Map → Shadows → (a n : ℕ) → Shadows
 markAll F m s a zero = s
 markAll F m s a (suc n) = markAll F m (markOne F m s a) (suc a) n
 
+-- they all are
 unfoldable pub allMarked : Form → Map → Shadows → (a n : ℕ) → Bool
 allMarked F m s a zero = true
 allMarked F m s a (suc n) = isMarked F m s a && allMarked F m s (suc a) n
@@ -135,13 +136,13 @@ ask F m a s =
     let r = reading F m s a in
     refuse F m s ((4, outside m a) ∷ (8, isDamaged r) ∷ (7, not (isBlock r)) ∷ []) (s, askFields r)
 
--- ---- valid, kind 6: `from` and the n bytes lie in the same block. S-5: which is no literal; kind 15, without `write`, does not ask that
+-- ---- valid, kind 6: one block has `from` and the n bytes. S-5: and is no literal; kind 15, without `write`, does not ask that
 
 unfoldable pub valid : Form → Map → (write : Bool) (address n from : ℕ) → Shadows → Shadows × Answer
 valid F m write a n from s =
     let r = reading F m s a in
-    let q = reading F m s from in
-    refuse F m s ((3, eqb n 0) ∷ (8, isDamaged r || isDamaged q) ∷ []) (s, yesNo (inOne n r && sameBlock r q && not (write && isLiteral r)))
+    let f = reading F m s from in
+    refuse F m s ((3, eqb n 0) ∷ (8, isDamaged r || isDamaged f) ∷ []) (s, yesNo (inOne n r && sameBlock r f && not (write && isLiteral r)))
 
 -- ---- initialised, kind 7: one block has the n bytes, and all of them are written
 

@@ -1,5 +1,5 @@
--- S-8: the desk's heap, of 16-byte segments and eight-byte numbers, and the rules of its map. Its calls, its stack and its plain list are those of the
--- player with 16 for 8 in segments, alignment and headers. Every a, base and segment is an address. Assumes nothing.
+-- S-8: the desk's heap, of 16-byte segments and eight-byte numbers, and the rules of its map. Its stack is the player's, unchanged; its calls and its
+-- plain list are the player's with 16 for 8 in heap segments, alignment and headers. Every a, base and segment is an address. Assumes nothing.
 use mathlib.Core.Bool.{Bool, false, cond, not, _&&_, _||_}
 use mathlib.Core.List.{List}
 use Prim.Native.Nat.{ℕ, _+_, _*_, _-_, _/_, _%_}
@@ -43,10 +43,11 @@ deskByte b a =
 abbrev pub segmentOf : Map → (a : ℕ) → ℕ
 segmentOf m a = a - heapPosition m a % 16
 
--- the number in the eight shadow bytes from an address on; one of 2 to the 32 or more is damage
+-- the number in the eight shadow bytes from an address on
 abbrev pub numberAt : Map → (heap : List ℕ) → (a : ℕ) → ℕ
 numberAt m h a = word (at h) (heapPosition m a) 8
 
+-- no number of the desk needs more than 32 bits: a larger one is damage
 abbrev pub isHuge : ℕ → Bool
 isHuge v = leb 4294967296 v
 

@@ -12,7 +12,7 @@ use Rattle.specification.specs.Form.{Form}
 abbrev pub segments : Form → (L : ℕ) → ℕ
 segments F L = (L + (F .segment - 1)) / F .segment
 
--- from an address to before another. A base that fits has a header before it: then the subtraction is exact
+-- its first address, and the address after its last. A base that fits has a header before it: then the subtraction is exact
 abbrev pub placeStart : Form → (base : ℕ) → ℕ
 placeStart F base = base - F .segment
 
@@ -24,7 +24,7 @@ placeLength F L = F .segment + segments F L * F .segment
 
 -- ---- any block
 
--- the block lies in the area of its base, and a heap block's header as well. S-5: a literal has its base in the stack
+-- block and, in the heap, header lie in the area that has the base. S-5: a literal's base is the stack's
 abbrev pub fits : Form → Map → (literal : Bool) (base L : ℕ) → Bool
 fits F m literal base L =
     cond (inHeap m base) (not literal && leb (m .«heap_start» + F .segment) base && leb (base + L) (heapEnd m)) (inStack m base && leb (base + L) (stackEnd m))
@@ -36,6 +36,6 @@ footStart F m base = cond (inHeap m base) (placeStart F base) base
 abbrev pub footEnd : Form → Map → (base L : ℕ) → ℕ
 footEnd F m base L = cond (inHeap m base) (placeEnd F base L) (base + L)
 
--- the footprint of a block of this base and length meets that of a listed one: each begins before the other ends
+-- a block of this base and length would meet a listed one: each footprint begins before the other ends
 abbrev pub meets : Form → Map → (base L : ℕ) → Block → Bool
 meets F m base L b = ltb (footStart F m base) (footEnd F m (b .base) (len b)) && ltb (footStart F m (b .base)) (footEnd F m base L)

@@ -31,13 +31,13 @@ stackEnd m = m .«stack_start» + m .«stack_size»
 abbrev pub areApart : Map → Bool
 areApart m = leb (heapEnd m) (m .«stack_start») || leb (stackEnd m) (m .«heap_start»)
 
--- a good map of the player. Sizes and starts are multiples of 8
+-- a good map of the player: each of the four numbers a multiple of 8,
 unfoldable pub good : Map → Bool
 good m =
     eqb (m .«heap_size» % 8) 0 && eqb (m .«stack_size» % 8) 0 && eqb (m .«heap_start» % 8) 0 && eqb (m .«stack_start» % 8) 0
-    -- the sizes of heap and stack
+    -- the least and the largest size of heap and stack,
     && leb 16 (m .«heap_size») && leb (m .«heap_size») mostHeap && leb 16 (m .«stack_size») && leb (m .«stack_size») mostStack
-    -- the least start, the greatest end
+    -- the least start, the greatest end,
     && leb 8 (m .«heap_start») && leb 8 (m .«stack_start») && leb (heapEnd m) mostEnd && leb (stackEnd m) mostEnd
     && areApart m
 
@@ -53,7 +53,7 @@ inStack m a = leb (m .«stack_start») a && ltb a (stackEnd m)
 abbrev pub outside : Map → (a : ℕ) → Bool
 outside m a = not (inHeap m a || inStack m a)
 
--- both areas end here or below
+-- the higher of the two ends
 abbrev pub endOfAreas : Map → ℕ
 endOfAreas m = max (heapEnd m) (stackEnd m)
 

@@ -1,5 +1,6 @@
--- Document 01, opening: numbers and bytes. A number is a whole number of any size, so that no sum wraps; a byte is a number below 256. The
--- definitions that are named here stand in crates/number/specs, a line or two each. Assumes nothing.
+-- Document 01, opening: numbers and bytes. A number is a whole number of any size, so that no sum wraps; a byte is a number below 256, which the
+-- definitions of this crate do not ask of a shadow's elements (Votes.antt says that bytes stay bytes). The definitions that are named here stand in
+-- crates/number/specs, a line or two each. Assumes nothing.
 
 -- Little.antt: `byteOf v i` is byte i of the number v, where byte 0 is the lowest; `word f q n` is the number in the n bytes f q, f (q + 1), .., the
 -- lowest first

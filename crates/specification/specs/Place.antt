@@ -31,7 +31,7 @@ gaps F m h = gapsFrom F m (λ i. zeros (at h) (i * F .segment) (F .segment)) (m 
 
 -- ---- the choice
 
--- a gap before others: it, where it is no larger than the choice among them
+-- g stands before the gaps that the other was chosen from, so that it wins unless that one is smaller
 abbrev pub smaller : Gap → Option Gap → Option Gap
 smaller g none = some g
 smaller g (some h) = cond (leb (g .bytes) (h .bytes)) (some g) (some h)
@@ -47,13 +47,13 @@ isNone (some g) = false
 
 -- ---- place: no kind
 
--- the gap's second segment, the number of gaps looked at, and the bytes that header and segments leave over; where no gap fits the call is refused, and
--- this is not asked
+-- the gap's second segment; how many gaps were looked at; the bytes that header and segments leave over. Where no gap fits the call is refused, and this
+-- is not asked
 abbrev pub placeFields : Form → (L looked : ℕ) → Option Gap → Answer
 placeFields F L looked none = done
 placeFields F L looked (some g) = answer 0 (g .start + F .segment) looked (g .bytes - placeLength F L) 0
 
--- a gap fits that holds header and block; the first `budget` gaps are looked at, or all. 14: none of them fits
+-- of the first `budget` gaps, or of all where there are fewer. 14: none of them has room for header and block
 unfoldable pub place : Form → Map → (length budget : ℕ) → Shadows → Shadows × Answer
 place F m L budget s =
     let looked = take budget (gaps F m (heapOf s)) in

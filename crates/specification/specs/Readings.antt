@@ -27,13 +27,13 @@ isFirst nothing = false
 isFirst (block base L offset written literal) = eqb offset 0
 isFirst damaged = false
 
--- n bytes lie in one block by the reading of the first of them
+-- by the reading of the first of n bytes, its block has them all
 abbrev pub inOne : (n : ℕ) → Reading → Bool
 inOne n nothing = false
 inOne n (block base L offset written literal) = leb (offset + n) L
 inOne n damaged = false
 
--- two readings give the same block: base and length are equal
+-- two readings are of one block where base and length agree
 abbrev pub sameBlock : Reading → Reading → Bool
 sameBlock (block b L o w t) (block b′ L′ o′ w′ t′) = eqb b b′ && eqb L L′
 sameBlock (block b L o w t) nothing = false

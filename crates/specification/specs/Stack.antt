@@ -30,7 +30,7 @@ lastPiece L = 8 * (L / 8 - 1)
 unfoldable pub pieceOf : (L offset : ℕ) → ℕ
 pieceOf L offset = 8 * min (offset / 8) (L / 8 - 1)
 
--- a byte of a long block: how many places it stands into its piece
+-- the code of the byte at an offset: of a short block by Table 1, of a long one by how many places it stands into its piece
 unfoldable pub codeOf : (L offset : ℕ) → ℕ
 codeOf L offset = cond (leb L longestShort) (shortCode L offset) (pieceCode + (offset - pieceOf L offset))
 
@@ -42,7 +42,7 @@ primaryByte b a = 4 * codeOf (len b) (a - b .base) + (2 * bit (b .literal) + bit
 unfoldable pub pieceByte : (L o j : ℕ) → ℕ
 pieceByte L o j = cond (ltb j 4) (byteOf L j) (cond (ltb j 8) (byteOf o (j - 4)) 0)
 
--- zeros for a short block
+-- those of a long block lie in its pieces; of a short one they are zero
 unfoldable pub secondaryByte : Block → (a : ℕ) → ℕ
 secondaryByte b a =
     let L = len b in
@@ -51,11 +51,12 @@ secondaryByte b a =
 
 -- ---- the reading of an address a of the stack
 
--- Table 1 from codes 1 to 36 back to lengths: the first codes of the lengths 1 to 8 are 1, 2, 4, 7, 11, 16, 22, 29. And to offsets
+-- Table 1 from codes 1 to 36 back to lengths: the first codes of the lengths 1 to 8 are 1, 2, 4, 7, 11, 16, 22, 29
 unfoldable pub shortLength : (code : ℕ) → ℕ
 shortLength c =
     cond (leb 29 c) 8 (cond (leb 22 c) 7 (cond (leb 16 c) 6 (cond (leb 11 c) 5 (cond (leb 7 c) 4 (cond (leb 4 c) 3 (cond (leb 2 c) 2 1))))))
 
+-- and to offsets
 abbrev pub shortOffset : (code : ℕ) → ℕ
 shortOffset c = c - shortCode (shortLength c) 0
 
@@ -75,8 +76,14 @@ readLong m secondary a j written literal =
     cond (ltb (stackEnd m) (piece + 8)) damaged
     (let L = word (at secondary) (stackPosition m piece) 4 in
     let o = word (at secondary) (stackPosition m piece + 4) 4 in
-    -- damaged: no long block, no piece's offset, no piece of this block, past the eighth byte of a piece that is not the last, past the block
-    cond (ltb L 9 || not (eqb (o % 8) 0) || ltb L (o + 8) || (ltb 7 j && not (eqb o (lastPiece L))) || leb L (o + j)) damaged
+    -- damaged: too short for a long block; no place for a piece; a piece that the block has no room for; past eight bytes, in a piece that is not the
+    -- last; past the block's end
+    cond
+    (ltb L 9
+    || not (eqb (o % 8) 0)
+    || ltb L (o + 8)
+    || (ltb 7 j && not (eqb o (lastPiece L)))
+    || leb L (o + j)) damaged
     (found m a L (o + j) written literal)))
 
 unfoldable pub readStack : Map → (primary secondary : List ℕ) → (a : ℕ) → Reading

@@ -1,5 +1,6 @@
--- Document 01, the numbers of refusal as its table has them, with the rows of document 02 up to S-8: for each number, which calls have it and when. The
--- calls list their own numbers instead (Calls.antt); Votes.antt says that both agree. The tests are the same. Assumes nothing.
+-- Document 01, the numbers of refusal as its table has them, with the rows of S-5, S-6 and S-7: for each number, which calls have it and when. The
+-- calls list their own numbers instead (Calls.antt); Votes.antt says that both agree. The tests are the same. 9 and 10 are the
+-- calls program's, 11 and 12 are S-4's. Assumes nothing.
 use mathlib.Core.Bool.{Bool, true, false, not, _&&_, _||_}
 use mathlib.Core.List.{List, [], _∷_}
 use Prim.Native.Nat.{ℕ, zero, suc, _-_, _%_}

@@ -67,7 +67,7 @@ abbrev pub says : (a : ℕ) → Option Block → Reading
 says a none = nothing
 says a (some b) = block (b .base) (len b) (a - b .base) (bit (isWritten b a)) (b .literal)
 
--- `most` is 9 for the player and 17 for the desk
+-- promised with 9 and `playerLooks` for the player, with 17 and `deskLooks` for the desk (crates/promises, Promises.antt)
 pub record SecondVote (most : ℕ) (heapLooks : Map → List ℕ → ℕ → List ℕ) (F : Form) (m : Map) : Type 0 where
   -- a reading looks at so many bytes at most, of the stack at nine; shadows that agree there are read alike, and looked at alike
   pub few-bytes : (s : Shadows) (a : ℕ) → length (looks heapLooks m s a) ≤ cond (inHeap m a) most 9

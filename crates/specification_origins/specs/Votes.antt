@@ -11,10 +11,11 @@ use Rattle.number.specs.Little.{Bytes}
 use Rattle.number.specs.Parts.{Each}
 use Rattle.types.specs.Call as plains
 use Rattle.types.specs.Call.{clear, Answer, answer, number, refusal, done, Refusal, firstOf}
-use Rattle.types.specs.Origins.{Call, plain, live, OriginList}
+use Rattle.types.specs.Origins.{Call, plain, point, copy, live, OriginList}
 use Rattle.specification.specs.Numbers.{bit}
 use Rattle.specification.specs.Map.{Map, good, rightLengths, zeroed, outside}
 use Rattle.specification.specs.Heap.{player}
+use Rattle.specification.specs.Readings.{reading, isDamaged, inOne}
 use Rattle.specification.specs.Blocks.{holds, hasBase, any}
 use Rattle.specification.specs.Image.{mayStand}
 use Rattle.specification.specs.Call as plain-form
@@ -51,6 +52,33 @@ pub record FirstVote (m : Map) : Type 0 where
   pub lengths-kept : (c : Call) (x : Lent)
       → SameLengths (call m c x .0 .shadows) (x .shadows)
       × (length (heapCells (call m c x .0 .cells)) ≡ length (heapCells (x .cells))) × (length (stackCells (call m c x .0 .cells)) ≡ length (stackCells (x .cells)))
+
+-- the rows for kinds 11 to 13: 11 and 13 have one pointer cell, 12 has two, and no address
+abbrev pub noPointerRow : Map → Lent → (c : ℕ) → Bool
+noPointerRow m x c = not (eqb (c % 4) 0) || not (inOne 4 (reading player m (x .shadows) c))
+
+abbrev pub pointerRows : Map → (fourth : Bool) (c a : ℕ) (eleventh : Bool) → Lent → List Refusal
+pointerRows m fourth c a eleventh x =
+    (1, not (good m)) ∷ (2, not (rightLengths m (x .shadows)) || not (rightCells m (x .cells))) ∷ (4, fourth)
+    ∷ (8, isDamaged (reading player m (x .shadows) c) || isDamaged (reading player m (x .shadows) a)) ∷ (11, eleventh) ∷ []
+
+-- the recordings
+abbrev pub isRecording : Call → Bool
+isRecording (plain c) = when (λ base L. true) never neither neither c
+isRecording (point c a) = false
+isRecording (copy to from) = false
+isRecording (live c a) = false
+
+pub record PointerVote (m : Map) : Type 0 where
+  pub point-number : (c a : ℕ) (x : Lent) → numberOf m (point c a) x ≡ firstOf (pointerRows m (outside m c) c a (noPointerRow m x c) x)
+  pub copy-number : (to from : ℕ) (x : Lent)
+      → numberOf m (copy to from) x ≡ firstOf (pointerRows m (outside m to || outside m from) to from (noPointerRow m x to || noPointerRow m x from) x)
+  pub live-number : (c a : ℕ) (x : Lent) → numberOf m (live c a) x ≡ firstOf (pointerRows m (outside m c) c a (noPointerRow m x c) x)
+  -- the counter goes up by one with each accepted recording, and never else
+  pub counter-after : (c : Call) (x : Lent) → call m c x .0 .counter ≡ x .counter + bit (isRecording c && eqb (numberOf m c x) 0)
+  -- bytes stay bytes
+  pub bytes-kept : (c : Call) (x : Lent) → AllBytes (x .shadows) → Bytes (heapCells (x .cells)) → Bytes (stackCells (x .cells))
+      → AllBytes (call m c x .0 .shadows) × Bytes (heapCells (call m c x .0 .cells)) × Bytes (stackCells (call m c x .0 .cells))
 
 -- ---- demand 3
 
