@@ -1,2 +1,4 @@
 pub mod TurnLaws
 pub mod FileLaws
+pub mod RanLaws
+pub mod AlikeLaws

@@ -1,5 +1,5 @@
 -- What a turn's parts say together. Assumes nothing.
-use mathlib.Core.Path.{_≡_, ap}
+use mathlib.Core.Path.{_≡_, ap, _∙_}
 use mathlib.Core.Bool.{true, false}
 use mathlib.Core.List.{List, _++_}
 use mathlib.Core.Logic.{_≢_}
@@ -8,10 +8,11 @@ use Prim.Native.Nat.{ℕ, _-_, _≤_}
 use native.Mathlib.Omega.{arith}
 use lib.ListN.{length}
 use Rattle.map.specs.declared.Map.{Map}
+use Rattle.plain.specs.Call as plain
 use Rattle.monitor_base.specs.declared.Answer.{Answer}
 use Rattle.monitor_base.specs.Answers.{answerOf}
+use Rattle.calls_format.specs.Lines.{line}
 use Rattle.calls_format.specs.Program.{Program, Whole, undecodable}
-use Rattle.calls_format.proofs.LineLaws.{line-as}
 use Rattle.calls_window.specs.declared.Window.{Window}
 use Rattle.calls_window.specs.Window.{content, Refilled}
 use Rattle.calls_window.proofs.WindowLaws.{content-length, content-short, content-past}
@@ -67,7 +68,7 @@ module _ {P : Program} (a b : Point P) (w : Window) (h : Refilled (a .run .windo
 
   -- the first record was served
   pub turned-some : Whole P → (r : P .Request) (k i : ℕ) (m : Map) (x : Answer) → w .at ≢ w .end → P .decode (content w (b .bytes)) ≡ some r
-      → k ≡ P .kind r → i ≡ P .size r → Told (a .run) w k i m x (b .run) (a .lines) (b .lines)
+      → ((y : plain.Answer) → line k y ≡ P .line r y) → i ≡ P .size r → Told (a .run) w k i m x (b .run) (a .lines) (b .lines)
       → (b .state, answerOf x) ≡ P .serve r (a .state) → Turned a b
   turned-some W r k i m x n d ek ei t s =
       let fits = record-fits W w (b .bytes) r d in
@@ -82,6 +83,6 @@ module _ {P : Program} (a b : Point P) (w : Window) (h : Refilled (a .run .windo
               t .goes,
               ap (λ (y : P .State × _). y .0) s,
               content-past w (b .run .window) i (P .size r) (b .bytes) (h .held .0, omega arith) (omega (arith, fits, ei)) (t .past .from) (t .past .to) ei,
-              text-as _ _ (line-as ek (ap (λ (y : P .State × _). y .1) s)) (t .adds),
+              text-as _ _ (ek (answerOf x) ∙ ap (λ (y : P .State × plain.Answer). P .line r (y .1)) s) (t .adds),
             );
       }

@@ -9,6 +9,7 @@ use lib.ListN.{length, take, drop, set, length-append, length-take}
 use lib.Seq.{sets, sets-eq}
 use lib.Dec.{ltb, eqb}
 use borrow.Author.Tests.{lt-ltb, le-ltb, ltb-true, ltb-false, eqb-false, ne-eqb}
+use Rattle.number.specs.Parts.{Each}
 use Rattle.number.proofs.TestLaws.{Test, is-true, is-false, test}
 use Rattle.plain.specs.Call.{Answer, answer, number}
 use Rattle.calls_format.specs.Lines.{digits, decimal, spaced, answerFields, line}
@@ -45,29 +46,36 @@ decimal-last : (v : ℕ) → v < 10 → decimal v ≡ (48 + v) ∷ []
 unfolding digits
 decimal-last v h = rw (lt-ltb v 10 h)
 
-digits-enough : (n v : ℕ) → v < 10 ^ suc n → digits (suc (suc n)) v ≡ digits (suc n) v
+-- digits that are enough for a number are as good as any more
+same-digits : (n k v : ℕ) → v < 10 ^ suc n → v < 10 ^ suc k → digits (suc n) v ≡ digits (suc k) v
 unfolding digits
-digits-enough zero v h = rw (lt-ltb v 10 (omega arith))
-digits-enough (suc n) v h = rw (digits-enough n (v / 10) (omega arith))
+same-digits zero k v h g = rw (lt-ltb v 10 (omega arith))
+same-digits (suc n) zero v h g = rw (lt-ltb v 10 (omega arith))
+same-digits (suc n) (suc k) v h g = rw (same-digits n k (v / 10) (omega arith) (omega arith))
 
-decimal-more : (v : ℕ) → 10 ≤ v → v < 10000000000 → decimal v ≡ decimal (v / 10) ++ ((48 + v % 10) ∷ [])
+-- a number is below ten to its own power
+below : (v : ℕ) → v < 10 ^ suc v
+below zero = omega arith
+below (suc v) = let h = below v in omega arith
+
+decimal-more : (v : ℕ) → 10 ≤ v → decimal v ≡ decimal (v / 10) ++ ((48 + v % 10) ∷ [])
 unfolding digits
-decimal-more v h b = rw (le-ltb v 10 h, digits-enough 8 (v / 10) (omega arith))
+decimal-more zero h = absurd (omega arith)
+decimal-more (suc v) h = rw (le-ltb (suc v) 10 h, same-digits v (suc v / 10) (suc v / 10) (omega (arith, below v)) (below (suc v / 10)))
 
 -- one digit; the digits of the tenth, and one more
 pub length-last : (v : ℕ) → v < 10 → length (decimal v) ≡ 1
 length-last v h = rw (decimal-last v h)
 
-pub length-more : (v : ℕ) → 10 ≤ v → v < 10000000000 → length (decimal v) ≡ length (decimal (v / 10)) + 1
-length-more v h b = rw (decimal-more v h b) (length-append (decimal (v / 10)) ((48 + v % 10) ∷ []))
+pub length-more : (v : ℕ) → 10 ≤ v → length (decimal v) ≡ length (decimal (v / 10)) + 1
+length-more v h = rw (decimal-more v h) (length-append (decimal (v / 10)) ((48 + v % 10) ∷ []))
 
 pub wrote-last : (v p : ℕ) (l : List ℕ) → v < 10 → Wrote (decimal v) p (p + 1) l (set l p (48 + v))
 wrote-last v p l h = rw (decimal-last v h) (wrote-one (48 + v) p l)
 
-pub wrote-more : (v p q : ℕ) (l m : List ℕ) → 10 ≤ v → v < 10000000000 → Wrote (decimal (v / 10)) p q l m
-    → Wrote (decimal v) p (q + 1) l (set m q (48 + v % 10))
-wrote-more v p q l m h b w =
-    rw (decimal-more v h b) (wrote-both (decimal (v / 10)) ((48 + v % 10) ∷ []) p q (q + 1) l m (set m q (48 + v % 10)) w (wrote-one (48 + v % 10) q m))
+pub wrote-more : (v p q : ℕ) (l m : List ℕ) → 10 ≤ v → Wrote (decimal (v / 10)) p q l m → Wrote (decimal v) p (q + 1) l (set m q (48 + v % 10))
+wrote-more v p q l m h w =
+    rw (decimal-more v h) (wrote-both (decimal (v / 10)) ((48 + v % 10) ∷ []) p q (q + 1) l m (set m q (48 + v % 10)) w (wrote-one (48 + v % 10) q m))
 
 digits-length : (n v : ℕ) → length (digits n v) ≤ n
 unfolding digits
@@ -78,8 +86,15 @@ digits-length (suc n) v = go (test (ltb v 10)) (digits-length n (v / 10))
     go (is-true t) h = rw t (omega arith)
     go (is-false t) h = rw t (omega (arith, length-append (digits n (v / 10)) ((48 + v % 10) ∷ [])))
 
-decimal-length : (v : ℕ) → length (decimal v) ≤ 10
-decimal-length v = digits-length 10 v
+-- a number of at most ten digits, as every number of 32 bits is
+abbrev pub Short : ℕ → Type 0
+Short v = v < 10000000000
+
+pub decimal-short : (v : ℕ) → Short v → decimal v ≡ digits 10 v
+decimal-short v h = same-digits v 9 v (below v) h
+
+decimal-length : (v : ℕ) → Short v → length (decimal v) ≤ 10
+decimal-length v h = rw (decimal-short v h) (digits-length 10 v)
 
 -- ---- numbers after spaces
 
@@ -102,10 +117,10 @@ wrote-more-spaced vs ws p q r l m n a b = rw (spaced-append vs ws) (wrote-both (
 pub length-spaced : (vs ws : List ℕ) → length (spaced (vs ++ ws)) ≡ length (spaced vs) + length (spaced ws)
 length-spaced vs ws = rw (spaced-append vs ws) (length-append (spaced vs) (spaced ws))
 
-spaced-length : (xs : List ℕ) → length (spaced xs) ≤ 11 * length xs
+spaced-length : (xs : List ℕ) → Each Short xs → length (spaced xs) ≤ 11 * length xs
 unfolding spaced
-spaced-length [] = omega arith
-spaced-length (x ∷ xs) = omega (arith, length-append (decimal x) (spaced xs), decimal-length x, spaced-length xs)
+spaced-length [] e = omega arith
+spaced-length (x ∷ xs) (h, e) = omega (arith, length-append (decimal x) (spaced xs), decimal-length x h, spaced-length xs e)
 
 -- ---- the answer fields of each kind
 
@@ -152,32 +167,37 @@ module _ (k n a b c d : ℕ) where
 
 -- ---- a line's length
 
+-- a kind and an answer of short numbers
+abbrev pub ShortLine : (kind : ℕ) → Answer → Type 0
+ShortLine k (answer n a b c d) = Short k × Short n × Each Short (a ∷ b ∷ c ∷ d ∷ [])
+
+each-take : (n : ℕ) (vs : List ℕ) → Each Short vs → Each Short (take n vs)
+each-take zero vs e = tt
+each-take (suc n) [] e = tt
+each-take (suc n) (v ∷ vs) (h, e) = (h, each-take n vs e)
+
 -- only kinds of two digits at most have answer fields
 two-digits : (k : ℕ) → k < 100 → length (decimal k) ≤ 2
 unfolding digits
-two-digits k h = go (test (ltb k 10))
-  where
-    go : Test (ltb k 10) → length (decimal k) ≤ 2
-    go (is-true t) = rw t (omega arith)
-    go (is-false t) = rw (t, lt-ltb (k / 10) 10 (omega arith)) (omega arith)
+two-digits k h = rw (same-digits k 1 k (below k) (omega arith)) (digits-length 2 k)
 
 no-fields : (k : ℕ) → 100 ≤ k → answerFields k ≡ 0
 unfolding answerFields
 no-fields k h = rw (ne-eqb k 5 (omega arith), ne-eqb k 6 (omega arith), ne-eqb k 7 (omega arith), ne-eqb k 8 (omega arith), ne-eqb k 9 (omega arith), ne-eqb k 13 (omega arith), ne-eqb k 15 (omega arith))
 
-told-short : (k : ℕ) (r : Answer) → length (decimal k) + length (spaced (fieldsTold k r)) ≤ 46
+told-short : (k : ℕ) (r : Answer) → ShortLine k r → length (decimal k) + length (spaced (fieldsTold k r)) ≤ 46
 unfolding spaced
-told-short k (answer n a b c d) = go (test (eqb n 0)) (test (ltb k 100))
+told-short k (answer n a b c d) (i, j, e) = go (test (eqb n 0)) (test (ltb k 100))
   where
     all : List ℕ
     all = a ∷ b ∷ c ∷ d ∷ []
 
     go : Test (eqb n 0) → Test (ltb k 100) → length (decimal k) + length (spaced (fieldsTold k (answer n a b c d))) ≤ 46
-    go (is-false z) t = rw z (omega (arith, decimal-length k))
+    go (is-false z) t = rw z (omega (arith, decimal-length k i))
     go (is-true z) (is-true t) =
         rw z
-        (omega (arith, two-digits k (ltb-true k 100 t), spaced-length (take (answerFields k) all), length-take (answerFields k) all))
-    go (is-true z) (is-false t) = rw (z, no-fields k (ltb-false k 100 t)) (omega (arith, decimal-length k))
+        (omega (arith, two-digits k (ltb-true k 100 t), spaced-length (take (answerFields k) all) (each-take (answerFields k) all e), length-take (answerFields k) all))
+    go (is-true z) (is-false t) = rw (z, no-fields k (ltb-false k 100 t)) (omega (arith, decimal-length k i))
 
 -- a line's parts, one after another
 line-parts : (k : ℕ) (r : Answer) → ((decimal k ++ spaced (number r ∷ [])) ++ spaced (fieldsTold k r)) ++ (10 ∷ []) ≡ line k r
@@ -185,11 +205,12 @@ unfolding line
 line-parts k (answer n a b c d) = rw (spaced-append (n ∷ []) (fieldsTold k (answer n a b c d))) (simp append-assoc)
 
 -- and their lengths
-pub parts-short : (k : ℕ) (r : Answer) → length (decimal k) + length (spaced (number r ∷ [])) + length (spaced (fieldsTold k r)) ≤ 57
-parts-short k r = omega (arith, told-short k r, spaced-length (number r ∷ []))
+pub parts-short : (k : ℕ) (r : Answer) → ShortLine k r → length (decimal k) + length (spaced (number r ∷ [])) + length (spaced (fieldsTold k r)) ≤ 57
+parts-short k (answer n a b c d) (i, j, e) =
+    omega (arith, told-short k (answer n a b c d) (i, j, e), spaced-length (n ∷ []) (j, tt))
 
-pub line-short : (k : ℕ) (r : Answer) → length (line k r) ≤ 58
-line-short k r = rw (← line-parts k r) (simp length-append (omega (arith, parts-short k r)))
+pub line-short : (k : ℕ) (r : Answer) → ShortLine k r → length (line k r) ≤ 58
+line-short k r h = rw (← line-parts k r) (simp length-append (omega (arith, parts-short k r h)))
 
 pub wrote-line : (k : ℕ) (r : Answer) (p q e : ℕ) (l l₁ l₂ l₃ : List ℕ) → Wrote (decimal k) 0 p l l₁ → Wrote (spaced (number r ∷ [])) p q l₁ l₂
     → Wrote (spaced (fieldsTold k r)) q e l₂ l₃ → Wrote (line k r) 0 (e + 1) l (set l₃ e 10)
@@ -197,5 +218,5 @@ wrote-line k r p q e l l₁ l₂ l₃ a b c =
     rw (← line-parts k r)
     (wrote-both _ _ 0 e (e + 1) l l₃ (set l₃ e 10) (wrote-both _ _ 0 q e l l₂ l₃ (wrote-both _ _ 0 p q l l₁ l₂ a b) c) (wrote-one 10 e l₃))
 
-pub line-as : {k k′ : ℕ} {a a′ : Answer} → k ≡ k′ → a ≡ a′ → line k a ≡ line k′ a′
-line-as e f = rw (e, f)
+pub line-as : {k k′ : ℕ} → k ≡ k′ → (a : Answer) → line k a ≡ line k′ a
+line-as e a = rw e

@@ -6,14 +6,14 @@ use lib.Dec.{ltb, eqb}
 use lib.ListN.{take}
 use Rattle.plain.specs.Call.{Answer, answer}
 
--- the decimal digits of a number of at most n digits, as text
+-- the decimal digits of v, at most n of them, as text
 unfoldable pub digits : (n v : ℕ) → List ℕ
 digits zero v = []
 digits (suc n) v = cond (ltb v 10) ((48 + v) ∷ []) (digits n (v / 10) ++ ((48 + v % 10) ∷ []))
 
--- a 32-bit number has at most ten digits
+-- all of them: v has no more digits than v + 1
 abbrev pub decimal : ℕ → List ℕ
-decimal v = digits 10 v
+decimal v = digits (suc v) v
 
 -- each number after a space
 unfoldable pub spaced : List ℕ → List ℕ

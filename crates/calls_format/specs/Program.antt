@@ -11,23 +11,23 @@ use Rattle.calls_format.specs.Lines.{line}
 use Rattle.calls_format.specs.Running as running
 
 -- what its records ask for, what it keeps between them, and what it begins with; what the first record of some bytes asks for, none where it is
--- undecodable; the kind and the length of a request's record; and how a request is served
+-- undecodable; the length of a request's record; how a request is served; and the line that tells its answer
 pub record Program : Type 1 where
   pub Request : Type 0
   pub State : Type 0
   pub first : State
   pub decode : List ℕ → Option Request
-  pub kind : Request → ℕ
   pub size : Request → ℕ
   pub serve : Request → State → State × Answer
+  pub line : Request → Answer → List ℕ
 
 -- `9` and a line end: the line of an undecodable record, after which nothing is read
 abbrev pub undecodable : List ℕ
 undecodable = 57 ∷ 10 ∷ []
 
--- the line of a request, kind, number and fields
+-- what a request prints
 abbrev pub requestLine : (P : Program) → P .Request → P .State → List ℕ
-requestLine P r s = line (P .kind r) ((P .serve r s) .1)
+requestLine P r s = P .line r ((P .serve r s) .1)
 
 -- a decoded record has a byte at least and is whole, and where the longest record is there, more bytes decode to the same. Interface of the
 -- proofs: no promise rests on it
@@ -44,7 +44,7 @@ plainProgram =
       State = running.State;
       first = running.firstState;
       decode = records.decode;
-      kind = kindOf;
       size = λ r. lengthOf (kindOf r);
       serve = running.serve;
+      line = λ r. line (kindOf r);
     }

@@ -4,6 +4,7 @@ ghost use mathlib.Core.Bool.{false};
 ghost use Prim.Native.Nat.{_-_, _≤_};
 ghost use Rattle.calls_window.specs.Window.{Held};
 ghost use Rattle.calls_output.specs.Pending.{Waits};
+ghost use Rattle.calls_run.specs.Begun.{Begun};
 ghost use Rattle.calls_run.specs.Told.{Told};
 use calls_output::Pending;
 use calls_window::Window;
@@ -16,6 +17,30 @@ pub struct Run {
     pub window: Window,
     pub pending: Pending,
     pub on: bool,
+}
+
+// The run at its beginning: no map yet, nothing read, and nothing waits.
+pub fn begun() -> Run
+    ensures { λ r. ⌜ Begun r ⌝ }
+{
+    Run {
+        map: Map {
+            heap_start: 0,
+            heap_size: 0,
+            stack_start: 0,
+            stack_size: 0,
+        },
+        window: Window {
+            at: 0,
+            end: 0,
+            more: true,
+        },
+        pending: Pending {
+            filled: 0,
+            open: true,
+        },
+        on: true,
+    }
 }
 
 // The run at its end.

@@ -21,9 +21,9 @@ content-short w l = omega (arith, length-take (w .end - w .at) (drop (w .at) l))
 
 -- d before, b after what is left was moved to the front, l after the reads
 pub refilled : (w : Window) (end : ℕ) (more : Bool) (d b l : List ℕ) → Held w (length d) × (w .more ≡ true) → w .end - w .at ≤ end → end ≤ length d
-    → b ≡ paste d 0 (drop (w .at) d) (w .end - w .at) → take (w .end - w .at) l ≡ take (w .end - w .at) b → (more ≡ true → longest ≤ end)
+    → b ≡ paste d 0 (drop (w .at) d) (w .end - w .at) → take (w .end - w .at) l ≡ take (w .end - w .at) b → (more ≡ true → longest ≤ end) → length l ≡ length d
     → Refilled w (record { at = 0; end = end; more = more }) (length d) d l
-refilled w end more d b l h x y m e g =
+refilled w end more d b l h x y m e g k =
     record {
       held = (omega arith, y);
       first =
@@ -32,6 +32,7 @@ refilled w end more d b l h x y m e g =
           ∙ copied d b (drop (w .at) d) 0 (w .end - w .at) (w .end - w .at) (w .end - w .at) refl (omega arith) (omega arith) (omega (arith, h .0 .0, h .0 .1, length-drop (w .at) d)) m);
       long = λ t. rw (sub-zero end) (g t);
       ended = λ t. absurd (let u = h .1 in let z : _≡_ {A = ℕ} 0 1 = cc in omega arith);
+      kept = k;
     }
 
 -- a window with enough in it, or after the input's end
@@ -42,6 +43,7 @@ unfilled w size d h g =
       first = take-take (w .end - w .at) (w .end - w .at) (drop (w .at) d) (omega arith);
       long = g;
       ended = λ t. (t, refl);
+      kept = refl;
     }
 
 -- past a record of k bytes are the bytes after it

@@ -1,11 +1,10 @@
--- What the calls that write alter, proved: see specs/Alters.antt for what each says. Assumes nothing.
+-- What is left of the shadows, proved: see `RecordStamps` and `LengthsKept` of specs/Alters.antt. Assumes nothing.
 use mathlib.Core.Path.{_≡_, refl, sym, ap, _∙_}
 use mathlib.Core.Bool.{true, false, cond}
 use mathlib.Core.List.{List, [], _∷_}
 use Prim.Native.Nat.{ℕ, zero, suc, _+_, _*_, _-_, _≤_}
 use native.Mathlib.Omega.{arith}
 use lib.ListN.{length, length-set, length-replicate, List·getD-eq-default}
-use borrow.Author.Tests.{not-false}
 use Rattle.number.specs.Parts.{at, tab}
 use Rattle.number.proofs.TestLaws.{Test, is-true, is-false, test, cond-true}
 use Rattle.number.proofs.PartLaws.{length-over, at-tab-out}
@@ -20,7 +19,7 @@ use Rattle.plain.specs.Lift.{down}
 use Rattle.plain.specs.Join.{only}
 use Rattle.plain.specs.Ops.{markRange, readAny}
 use Rattle.plain.specs.Call.{Call, clear, begin, free, remove, written, ask, valid, initialised, next, audit, place, firstOf, unless}
-use Rattle.plain.specs.ShadowCalls.{lengthOf, inOne, shadowsAfter, shadowAnswer}
+use Rattle.plain.specs.ShadowCalls.{lengthOf, shadowsAfter, shadowAnswer}
 use Rattle.plain.proofs.AreaLaws.{heap-shifted, stack-shifted}
 use Rattle.plain.proofs.KeptLaws.{base-inside}
 use Rattle.plain.proofs.StampedLaws.{Stands}
@@ -34,15 +33,11 @@ use Rattle.stack_layout.proofs.ImageLaws as stack
 use Rattle.shadows.specs.Shadows.{Shadows, Place, heap, primary, secondary, byteAt, lengthsFit, shadowOps, image}
 use Rattle.shadows.proofs.ShadowLaws.{Fit, fit-true, map-sound}
 use Rattle.monitor_base.specs.Calls.{refusals, call}
-use Rattle.demands.specs.Addresses.{inHeap, inStack, outside, readingAt}
-use Rattle.demands.specs.Demand1.{numberOf}
+use Rattle.demands.specs.Addresses.{inHeap, inStack}
 use Rattle.demands.specs.Alters.{inPlace, RecordStamps, LengthsKept}
-use Rattle.demands.proofs.Numbers.{number-first}
-use Rattle.demands.proofs.Demand1.{accepted-exactly}
+use Rattle.demands.proofs.Numbers.{first-two}
 use Rattle.demands.proofs.Begun as begun
 use Rattle.demands.proofs.OverLaws.{at-written}
-
--- ---- free
 
 -- ---- record
 
@@ -122,16 +117,34 @@ record-stamps m w b l s e q =
     let A = begun.accepted m w b l s e in
     rw (begun.began m w b l s e) (stamped m w b l s (A .good) (A .fit) (begun.stands m w b l s e) q)
 
--- ---- written
+-- ---- every call
 
-module _ (m : FormMap) (a n : ℕ) (s : Shadows) (e : numberOf m (written a n) s ≡ 0) where
-  -- what an accepted call says of map, lengths, address and range
-  record Accepted : Type 0 where
-    good : goodMap m ≡ true
-    fit : Fit m s
-    some : 1 ≤ n
-    inside : outside m a ≡ false
-    whole : inOne n (readingAt m s a) ≡ true
+-- what holds of cleared shadows, and stays where a block is stamped or erased and a byte is marked, stays after every accepted call
+pub record Keeps (m : FormMap) (P : Shadows → Type 0) : Type 0 where
+  pub cleared : P (shadowOps m .cleared)
+  pub stamped : (s : Shadows) (b : Block) → P s → P (shadowOps m .stamp s b)
+  pub erased : (s : Shadows) (x l : ℕ) → P s → P (shadowOps m .erase s x l)
+  pub marked : (s : Shadows) (a : ℕ) → P s → P (shadowOps m .mark s a)
+
+module _ (m : FormMap) (P : Shadows → Type 0) (K : Keeps m P) where
+  range-keeps : (n a : ℕ) (s : Shadows) → P s → P (markRange (shadowOps m) s a n)
+  unfolding markRange
+  range-keeps zero a s p = p
+  range-keeps (suc n) a s p = range-keeps n (suc a) (shadowOps m .mark s a) (K .marked s a p)
+
+  pub after-keeps : (c : Call) (s : Shadows) → P s → P (shadowsAfter (mapRules m) (shadowOps m) c s)
+  after-keeps clear s p = K .cleared
+  after-keeps (begin w b l) s p = K .stamped s (begun w b l) p
+  after-keeps (free zero) s p = p
+  after-keeps (free (suc x)) s p = K .erased s (suc x) (lengthOf (readAny (mapRules m) (shadowOps m) s (suc x))) p
+  after-keeps (remove x) s p = K .erased s x (lengthOf (readAny (mapRules m) (shadowOps m) s x)) p
+  after-keeps (written a n) s p = range-keeps n a s p
+  after-keeps (ask a) s p = p
+  after-keeps (valid w a n from) s p = p
+  after-keeps (initialised a n) s p = p
+  after-keeps (next a) s p = p
+  after-keeps audit s p = p
+  after-keeps (place l k) s p = p
 
 -- ---- lengths
 
@@ -164,36 +177,24 @@ module _ (m : FormMap) where
       go (is-true h) = rw h (length-set (s .0) _ _, refl, refl)
       go (is-false h) = rw h (refl, length-set (s .1 .0) _ _, refl)
 
-  range-long : (n a : ℕ) (s : Shadows) → AsLong s (markRange (shadowOps m) s a n)
-  unfolding markRange
-  range-long zero a s = (refl, refl, refl)
-  range-long (suc n) a s =
-      let f = mark-long s a in
-      let r = range-long n (suc a) (shadowOps m .mark s a) in (r .0 ∙ f .0, r .1 ∙ f .1, r .2 ∙ f .2)
-
-  -- what an accepted call leaves
-  after-long : (c : Call) (s : Shadows) → Fit m s → AsLong s (shadowsAfter (mapRules m) (shadowOps m) c s)
-  after-long clear s f =
-      (length-replicate (m .«heap_size») 0 ∙ sym (f .0), length-replicate (m .«stack_size») 0 ∙ sym (f .1 .0), length-replicate (m .«stack_size») 0 ∙ sym (f .1 .1))
-  after-long (begin w b l) s f = stamp-long s (begun w b l)
-  after-long (free zero) s f = (refl, refl, refl)
-  after-long (free (suc x)) s f = erase-long s (suc x) (lengthOf (readAny (mapRules m) (shadowOps m) s (suc x)))
-  after-long (remove x) s f = erase-long s x (lengthOf (readAny (mapRules m) (shadowOps m) s x))
-  after-long (written a n) s f = range-long n a s
-  after-long (ask a) s f = (refl, refl, refl)
-  after-long (valid w a n from) s f = (refl, refl, refl)
-  after-long (initialised a n) s f = (refl, refl, refl)
-  after-long (next a) s f = (refl, refl, refl)
-  after-long audit s f = (refl, refl, refl)
-  after-long (place l k) s f = (refl, refl, refl)
-
 pub lengths-kept : (m : FormMap) → LengthsKept m
 unfolding call
 lengths-kept m c s = go (firstOf (refusals m c s)) refl
   where
+    then : (t u : Shadows) → AsLong t u → AsLong s t → AsLong s u
+    then t u q p = (q .0 ∙ p .0, q .1 ∙ p .1, q .2 ∙ p .2)
+
+    keeps : Fit m s → Keeps m (AsLong s)
+    keeps f =
+        let (h, k) : ℕ × ℕ = (m .«heap_size», m .«stack_size») in
+        record {
+          cleared = (length-replicate h 0 ∙ sym (f .0), length-replicate k 0 ∙ sym (f .1 .0), length-replicate k 0 ∙ sym (f .1 .1));
+          stamped = λ t b. then t (shadowOps m .stamp t b) (stamp-long m t b);
+          erased = λ t x l. then t (shadowOps m .erase t x l) (erase-long m t x l);
+          marked = λ t a. then t (shadowOps m .mark t a) (mark-long m t a);
+        }
+
     go : (k : ℕ) → firstOf (refusals m c s) ≡ k
         → AsLong s ((unless k s (shadowsAfter (mapRules m) (shadowOps m) c s, shadowAnswer (mapRules m) (shadowOps m) c s)) .0)
-    go zero z =
-        let h = accepted-exactly m c s .1 (number-first m c s ∙ z) in
-        after-long m c s (fit-true m s (not-false (lengthsFit m s) (h .1 .0)))
+    go zero z = after-keeps m (AsLong s) (keeps (fit-true m s (first-two (goodMap m) (lengthsFit m s) _ z .1))) c s (refl, refl, refl)
     go (suc k) z = (refl, refl, refl)

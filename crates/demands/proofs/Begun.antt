@@ -1,7 +1,7 @@
 -- The ways to record, proved: see specs/Begun.antt for what each says. Assumes nothing.
 use mathlib.Core.Path.{_≡_, refl, sym, _∙_}
 use mathlib.Core.Bool.{true, false, not, _&&_}
-use Prim.Native.Nat.{ℕ, zero, suc, _-_, _≤_}
+use Prim.Native.Nat.{ℕ, zero, suc, _≤_}
 use native.Mathlib.Omega.{arith}
 use lib.ListN.{length-replicate}
 use borrow.Author.Tests.{not-false, eqb-false, ne-eqb}
@@ -25,8 +25,7 @@ use Rattle.shadows.proofs.ShadowLaws.{Fit, fit-true, true-fit, map-sound, shado
 use Rattle.monitor_base.specs.Calls.{refusals, call}
 use Rattle.monitor_base.proofs.CallLaws.{call-step}
 use Rattle.demands.specs.Begun.{AnswersOfRecord, RecordThenWritten}
-use Rattle.demands.proofs.Numbers.{number-first, misplaced-words, unaligned-words}
-use Rattle.demands.proofs.Demand1.{accepted-exactly}
+use Rattle.demands.proofs.Numbers.{number-first, none-holds}
 
 pub answers-of-record : (m : FormMap) → AnswersOfRecord m
 unfolding call
@@ -49,16 +48,15 @@ module _ (m : FormMap) (h : Beginning) (b l : ℕ) (s : Shadows) (e : number ((c
 
   pub accepted : Accepted
   accepted =
-      let k = accepted-exactly m (begin h b l) s .1 e in
-      let a = and-true (mapRules m .fits b l) (not (startsLiteral h && mapRules m .heap b))
-      (not-false (allows (mapRules m) h b l) (misplaced-words m h b l ∙ k .1 .1 .1 .0)) in
+      let (one, (two, (three, (four, (five, six))))) = none-holds m (begin h b l) s refl e in
+      let (fits, proper) = and-true (mapRules m .fits b l) (not (startsLiteral h && mapRules m .heap b)) (not-false (allows (mapRules m) h b l) four) in
       record {
-        good = not-false (goodMap m) (k .0);
-        fit = fit-true m s (not-false (lengthsFit m s) (k .1 .0));
-        some = omega (arith, eqb-false l 0 (k .1 .1 .0));
-        fits = a .0;
-        aligned = not-false (mapRules m .aligned b) (unaligned-words m b ∙ k .1 .1 .1 .1 .0);
-        proper = begun-proper (mapRules m) h b l (a .1);
+        good = not-false (goodMap m) one;
+        fit = fit-true m s (not-false (lengthsFit m s) two);
+        some = omega (arith, eqb-false l 0 three);
+        fits = fits;
+        aligned = not-false (mapRules m .aligned b) five;
+        proper = begun-proper (mapRules m) h b l proper;
       }
 
   pub stands : Stands (mapRules m) (begun h b l)

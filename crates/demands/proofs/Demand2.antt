@@ -10,7 +10,6 @@ use Rattle.number.specs.Bits.{bit}
 use Rattle.number.proofs.TestLaws.{Test, is-true, is-false, test}
 use Rattle.map.specs.FormMap.{FormMap}
 use Rattle.map.specs.Map.{goodMap}
-use Rattle.map.proofs.MapLaws.{good-true, within-true}
 use Rattle.plain.specs.Areas.{mapRules}
 use Rattle.plain.specs.Block.{Block, len, contains, isWritten}
 use Rattle.plain.specs.Blocks.{find, total, count}
@@ -34,9 +33,8 @@ use Rattle.monitor_base.specs.Calls.{refusals, call}
 use Rattle.monitor_base.proofs.CallLaws.{call-step}
 use Rattle.demands.specs.Addresses.{inHeap, inStack, outside, endOfAreas, readingAt}
 use Rattle.demands.specs.Demand2.{asked, blockTold, toldAt, totalsOf, AskReads, FewBytes, ImageShape, OneImage, AuditAccepts, AuditOnly, AuditRefuses, ReadBack}
-use Rattle.demands.proofs.Demand1.{accepted-exactly}
 use Rattle.demands.proofs.Demand3.{on-every-image}
-use Rattle.demands.proofs.Numbers.{outside-words, reading-words}
+use Rattle.demands.proofs.Numbers.{none-holds, apart-words, outside-words, reading-words}
 
 -- ---- readings
 
@@ -80,12 +78,6 @@ one-image m ok bs cs P Q e = laws.one-image (mapRules m) (map-sound m ok) (shado
 
 -- a block that is not the heap's is the stack's
 module _ (m : FormMap) (ok : goodMap m ≡ true) where
-  pub not-both-areas : (a : ℕ) → inHeap m a ≡ true → inStack m a ≡ true → ⊥
-  not-both-areas a h k =
-      let x = within-true (m .«heap_start») (m .«heap_size») a h in
-      let y = within-true (m .«stack_start») (m .«stack_size») a k in
-      good-true m ok .noShare (omega arith) (omega arith)
-
   other : (h k : Bool) → (h || k) ≡ true → (h ≡ true → k ≡ true → ⊥) → not (cond h true false) ≡ k
   other true true e n = absurd (n refl refl)
   other true false e n = refl
@@ -103,7 +95,7 @@ module _ (m : FormMap) (ok : goodMap m ≡ true) where
   stack-count [] from P = refl
   stack-count (b ∷ bs) from P =
       let i = base-inside (mapRules m) (map-sound m ok) (b .base) (len b) (P .some) (P .fits) in
-      rw (other (inHeap m (b .base)) (inStack m (b .base)) i (not-both-areas (b .base)), stack-count bs (mapRules m .high (b .base) (len b)) (P .later))
+      rw (other (inHeap m (b .base)) (inStack m (b .base)) i (apart-words m ok (b .base)), stack-count bs (mapRules m .high (b .base) (len b)) (P .later))
 
 pub audit-accepts : (m : FormMap) → AuditAccepts m
 unfolding plainStep
@@ -113,8 +105,8 @@ audit-accepts m ok bs P = on-every-image m ok bs P audit ∙ rw (heap-count m ok
 accepted-tally : (m : FormMap) (s : Shadows) → number ((call m audit s) .1) ≡ 0
     → (goodMap m ≡ true) × (lengthsFit m s ≡ true) × ((t : Tally) × (shadowOps m .audit s ≡ some t))
 accepted-tally m s e =
-    let h = accepted-exactly m audit s .1 e in
-    (not-false (goodMap m) (h .0), not-false (lengthsFit m s) (h .1 .0), there (shadowOps m .audit s) refl (h .1 .1 .1 .1 .1 .1 .1 .0))
+    let (one, (two, (eight, rest))) = none-holds m audit s refl e in
+    (not-false (goodMap m) one, not-false (lengthsFit m s) two, there (shadowOps m .audit s) refl eight)
   where
     there : (o : Option Tally) → shadowOps m .audit s ≡ o → isNone o ≡ false → (t : Tally) × (shadowOps m .audit s ≡ some t)
     there none q n = absurd (true≢false n)

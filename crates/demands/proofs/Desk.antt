@@ -11,7 +11,6 @@ use Rattle.number.specs.Little.{word}
 use Rattle.number.specs.Parts.{at}
 use Rattle.number.proofs.TestLaws.{Test, is-true, is-false, test}
 use Rattle.map.specs.FormMap.{FormMap, desk}
-use Rattle.map.specs.Map.{goodMap}
 use Rattle.map.proofs.MapLaws.{good-true, within-true, true-within, segment-least, number-holds}
 use Rattle.types.specs.declared.Beginning.{Beginning}
 use Rattle.types.specs.declared.Beginning.the-variants.{Unwritten}
@@ -33,25 +32,11 @@ use Rattle.monitor_base.specs.Calls.{call}
 use Rattle.demands.specs.Addresses.{inHeap}
 use Rattle.demands.specs.Demand1.{numberOf}
 use Rattle.demands.specs.Demand2.{asked}
-use Rattle.demands.specs.Desk.{segmentAt, RecordedRead, DeskExample}
+use Rattle.demands.specs.Desk.{RecordedRead, DeskExample}
 use Rattle.demands.proofs.Alters.{heap-placed}
 use Rattle.demands.proofs.Begun as begun
 use Rattle.demands.proofs.Demand2.{ask-reads}
 use Rattle.demands.proofs.Starts.{bytes-start}
-
--- ---- numbers of 2 to the 32 or more
-
-module _ (m : FormMap) (ok : goodMap m ≡ true) (s : Shadows) (a : ℕ) (h : inHeap m a ≡ true) where
-  abbrev G : ℕ
-  G = m .segment
-
-  abbrev g : ℕ
-  g = segmentAt m a
-
-  small : g ≤ 131072
-  small =
-      let u = within-true (m .«heap_start») (m .«heap_size») a h in
-      omega (arith, div-add-mod' (a - m .«heap_start») G, good-true m ok .heapMost)
 
 -- ---- a heap block right after it is recorded, on any shadows
 

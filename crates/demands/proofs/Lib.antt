@@ -16,5 +16,4 @@ pub mod OverLaws
 pub mod Places
 pub mod Readings
 pub mod Removals
-pub mod RowLaws
 pub mod Starts

@@ -1,6 +1,5 @@
--- How a literal begins, proved: see `LiteralAnswers`, `LiteralBytes` and `LiteralElsewhere` of specs/Literals.antt. Assumes nothing.
+-- How a literal begins, proved: see `LiteralAnswers` and `LiteralBytes` of specs/Literals.antt. Assumes nothing.
 use mathlib.Core.Path.{_≡_, refl, sym, ap, _∙_}
-use mathlib.Core.Logic.{_≢_}
 use mathlib.Core.Bool.{true, false, cond, true≢false}
 use mathlib.Core.List.{[], _∷_}
 use mathlib.Core.Option.{some}

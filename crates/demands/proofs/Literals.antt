@@ -1,7 +1,5 @@
--- Text that may only be read, proved: see specs/Literals.antt for what each says; LiteralBits.antt and LiteralBegun.antt have the rest.
--- Assumes nothing.
+-- Text that may only be read, proved: see specs/Literals.antt for what each says; LiteralBegun.antt has the rest. Assumes nothing.
 use mathlib.Core.Path.{_≡_, refl, sym, ap, _∙_}
-use mathlib.Core.Logic.{_≢_}
 use mathlib.Core.Bool.{Bool, true, false, not, _&&_, true≢false, false≢true}
 use mathlib.Core.List.{List, _++_}
 use mathlib.Core.Option.{some}
@@ -73,8 +71,6 @@ write-exactly m ok bs P a n from k = (
   λ b h l. yes m ok bs P true a n from k b h (ap not l),
   λ f. no m ok bs P true a n from k (λ b h t. f b h (not-not (b .literal) t)),
 )
-
--- ---- written is refused
 
 -- ---- a literal stays
 

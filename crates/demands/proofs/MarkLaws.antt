@@ -1,19 +1,11 @@
--- Marks on any shadows: the written bits of addresses, and what is no written bit. Assumes nothing.
+-- Where the written bits of addresses stand. Assumes nothing.
 use mathlib.Core.Path.{_≡_, ap}
-use mathlib.Core.Bool.{true}
 use Prim.Native.Nat.{ℕ, _+_, _*_, _-_, _/_, _%_, _≤_, _<_}
 use native.Mathlib.Omega.{arith}
 use native.Mathlib.Nat.{mul-le-mul-right, mul-mod-left, le-div-iff-mul-le, div-lt-iff-lt-mul, mod-lt}
-use Rattle.map.specs.FormMap.{FormMap}
-use Rattle.map.specs.Map.{goodMap}
 use Rattle.heap_layout.specs.Reading.{bitsPlace}
 use Rattle.heap_layout.proofs.SegmentLaws.{aligned-eq}
 
--- ---- bits
-
--- ---- one mark
-
--- the written bit of position r, where position p is marked
 -- the position of a multiple in an area that begins at one is a multiple
 pub aligned-sub : (G b h : ℕ) → 0 < G → h ≤ b → b % G ≡ 0 → h % G ≡ 0 → (b - h) % G ≡ 0
 aligned-sub G b h g l x y =
@@ -38,5 +30,3 @@ module _ (W G : ℕ) (wide : 4 ≤ W) (two : W + W ≤ G) where
       let lo = le-div-iff-mul-le {k = G} {x = c / G} {y = p} g .1 (omega arith) in
       let hi = div-lt-iff-lt-mul {k = G} {x = p} {y = c / G + n} g .1 (omega arith) in
       (omega (arith, mul-le-mul-right G lo), omega (arith, mul-le-mul-right G hi, bits-in p))
-
--- ---- the written bits of addresses

@@ -1,7 +1,7 @@
 -- Request S-6, proved: see specs/Places.antt for what each says. Assumes nothing.
 use mathlib.Core.Path.{_≡_, refl, sym, ap, _∙_, subst}
 use mathlib.Core.Logic.{_≢_}
-use mathlib.Core.Bool.{Bool, true, false, not}
+use mathlib.Core.Bool.{true, false}
 use mathlib.Core.List.{List}
 use mathlib.Core.Option.{Option, none, some}
 use Prim.Native.Nat.{ℕ, suc, _+_, _*_, _-_, _/_, _%_, _≤_, _<_, min}
@@ -9,7 +9,7 @@ use native.Mathlib.Omega.{arith}
 use native.Mathlib.Nat.{div-add-mod', mod-lt, mul-le-mul-right, mul-mod-left, le-of-mul-le-mul-right, le-div-iff-mul-le, div-lt-iff-lt-mul}
 use lib.ListN.{length, take}
 use lib.Dec.{ltb, eqb}
-use borrow.Author.Tests.{le-leb, lt-ltb, ltb-true, eq-eqb, ne-eqb, eqb-false}
+use borrow.Author.Tests.{le-leb, lt-ltb, ltb-true, eq-eqb, ne-eqb, eqb-false, not-false}
 use Rattle.number.specs.Parts.{at}
 use Rattle.number.proofs.TestLaws.{and-true, not-both, false-of}
 use Rattle.number.proofs.PartLaws.{zeros-at, zeros-all}
@@ -18,24 +18,25 @@ use Rattle.map.specs.Map.{goodMap}
 use Rattle.map.proofs.MapLaws.{good-true, true-within, segment-least}
 use Rattle.types.specs.declared.Beginning.{Beginning}
 use Rattle.types.specs.declared.Beginning.the-variants.{Unwritten, Written}
-use Rattle.plain.specs.Areas.{segments, placeLength}
+use Rattle.plain.specs.Areas.{segments, placeLength, mapRules}
+use Rattle.plain.specs.Block.{startsLiteral}
 use Rattle.plain.specs.Gaps.{Gap, best, Among}
 use Rattle.plain.specs.Call.{begin, record-block, record-written, place, Answer, answer, number}
 use Rattle.plain.specs.Placing.{noneFits}
 use Rattle.plain.proofs.BestLaws.{best-some, best-none, take-among, take-whole, take-more, take-ascending}
+use Rattle.heap_layout.specs.Ops.{heapVacant}
 use Rattle.heap_layout.proofs.SegmentLaws.{aligned-eq}
 use Rattle.shadows.specs.Shadows.{Shadows, lengthsFit, shadowOps}
 use Rattle.shadows.proofs.ShadowLaws.{shadow-images}
 use Rattle.monitor_base.specs.Calls.{call}
 use Rattle.demands.specs.Gaps.{heapSegments, isZero, beginsRun, gapsBelow, gapSize, isLooked, placeBytes}
 use Rattle.demands.specs.Addresses.{inHeap}
-use Rattle.demands.specs.Numbers.{isMisplaced, placeZero}
 use Rattle.demands.specs.Demand1.{numberOf}
 use Rattle.demands.specs.Places.{ZeroFrom, IsGap, gapsAt, gapFrom, Fits, GapsExactly, PlaceChooses, surplusOf, LargerBudget, PlacedRecorded, OnItsOwnImage}
-use Rattle.demands.proofs.Demand1.{accepted-exactly}
 use Rattle.demands.proofs.GapRuns.{Longest, longest-begins, begins-longest}
 use Rattle.demands.proofs.GapLists.{looked-count, ascending}
-use Rattle.demands.proofs.GapWords.{gapAtSegment, gaps-words, looked-among, among-looked, room-words, holds-need, need-holds}
+use Rattle.demands.proofs.GapWords.{gapAtSegment, gaps-words, looked-among, among-looked, holds-need, need-holds}
+use Rattle.demands.proofs.Numbers.{number-first, none-holds}
 
 -- ---- a gap, by its bytes and by its segments
 
@@ -121,14 +122,9 @@ module _ (m : FormMap) (s : Shadows) (l k : ℕ) where
 
   pub accepted : numberOf m (place l k) s ≡ 0 → (g : Gap) × Answered g
   accepted e =
-      let r = accepted-exactly m (place l k) s .1 e in
-      go (best (placeLength (m .segment) l) looked) refl (not-false (goodMap m) (r .0)) (not-false (lengthsFit m s) (r .1 .0)) (eqb-false l 0 (r .1 .1 .0))
-      (room-words m s l k ∙ r .1 .1 .1 .1 .1 .1 .1 .1 .1 .1 .0)
+      let (one, (two, (three, (fourteen, rest)))) = none-holds m (place l k) s refl e in
+      go (best (placeLength (m .segment) l) looked) refl (not-false (goodMap m) one) (not-false (lengthsFit m s) two) (eqb-false l 0 three) fourteen
     where
-      not-false : (b : Bool) → not b ≡ false → b ≡ true
-      not-false true e = refl
-      not-false false e = sym e
-
       go : (o : Option Gap) → best (placeLength (m .segment) l) looked ≡ o → goodMap m ≡ true → lengthsFit m s ≡ true → l ≢ 0 → noneFits (m .segment) l k (shadowOps m .gaps s) ≡ false → (g : Gap) × Answered g
       go none q ok fit n f = absurd (not-both true refl (rw q at f))
       go (some g) q ok fit n f = (g, answers ok fit n g q)
@@ -183,8 +179,6 @@ place-chooses m s l k e =
     let r = picked m s l k (a .0) (a .1) in
     (r .0, r .1, r .2 .fits, r .2 .least, r .2 .says)
 
--- ---- 14
-
 -- ---- a larger budget
 
 pub larger-budget : (m : FormMap) → LargerBudget m
@@ -214,7 +208,7 @@ module _ (m : FormMap) (s : Shadows) (l k i n : ℕ) (ok : goodMap m ≡ true) (
   in-heap : inHeap m base ≡ true
   in-heap = true-within (m .«heap_start») (m .«heap_size») base (omega arith) (omega (arith, F .holds, F .gap .inside))
 
-  in-place : isMisplaced m (record-block base l) ≡ false
+  in-place : mapRules m .fits base l ≡ true
   in-place =
       rw (
         in-heap,
@@ -230,18 +224,16 @@ module _ (m : FormMap) (s : Shadows) (l k i n : ℕ) (ok : goodMap m ≡ true) (
       let q : base ≡ (m .«heap_start» / G + i + 1) * G = omega arith in
       eq-eqb (base % G) 0 (ap (λ (x : ℕ). x % G) q ∙ mul-mod-left (m .«heap_start» / G + i + 1) G)
 
-  all-zero : placeZero m s base l ≡ true
-  unfolding placeLength
+  all-zero : shadowOps m .vacant s base l ≡ true
+  unfolding heapVacant placeLength
   all-zero =
       let e : base - m .«heap_start» - m .segment ≡ i * m .segment = omega arith in
       let need = holds-need m l n (F .holds) in
       rw (in-heap, e)
       (zeros-all (at (s .0)) (i * m .segment) (m .segment + segments (m .segment) l * m .segment) (λ q h. F .gap .zero (i * m .segment + q) (omega arith) (omega (arith, need))))
 
-  accepts : (how : Beginning) → isMisplaced m (begin how base l) ≡ false → numberOf m (begin how base l) s ≡ 0
-  accepts how e =
-      accepted-exactly m (begin how base l) s .0
-      (rw ok, (rw fit, (ne-eqb l 0 some, (e, (rw (in-heap, aligned), (rw all-zero, (refl, (refl, (refl, (refl, (refl, tt)))))))))))
+  accepts : (how : Beginning) → startsLiteral how ≡ false → numberOf m (begin how base l) s ≡ 0
+  accepts how e = number-first m (begin how base l) s ∙ rw (ok, fit, ne-eqb l 0 some, e, in-place, all-zero, in-heap, aligned)
 
 pub placed-recorded : (m : FormMap) → PlacedRecorded m
 placed-recorded m s l k b c u e =
@@ -250,10 +242,9 @@ placed-recorded m s l k b c u e =
     let r = picked m s l k (a .0) A in
     let i = r .0 in
     let q : m .«heap_start» + i * m .segment + m .segment ≡ b = ap first (sym (ap (λ (x : Shadows × Answer). x .1) (r .2 .says)) ∙ e) in
-    let F = r .2 .fits in
-    let v = in-place m s l k i (r .1) (A .good) (A .fit) (A .bytes) F in (
-      subst (λ (x : ℕ). numberOf m (record-block x l) s ≡ 0) q (accepts m s l k i (r .1) (A .good) (A .fit) (A .bytes) F Unwritten v),
-      subst (λ (x : ℕ). numberOf m (record-written x l) s ≡ 0) q (accepts m s l k i (r .1) (A .good) (A .fit) (A .bytes) F Written v),
+    let F = r .2 .fits in (
+      subst (λ (x : ℕ). numberOf m (record-block x l) s ≡ 0) q (accepts m s l k i (r .1) (A .good) (A .fit) (A .bytes) F Unwritten refl),
+      subst (λ (x : ℕ). numberOf m (record-written x l) s ≡ 0) q (accepts m s l k i (r .1) (A .good) (A .fit) (A .bytes) F Written refl),
     )
   where
     first : Answer → ℕ

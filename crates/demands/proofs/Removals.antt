@@ -1,11 +1,11 @@
 -- Only heap blocks may be freed, proved: see specs/Removals.antt for what each says. Assumes nothing.
 use mathlib.Core.Path.{_≡_, refl, sym, ap, _∙_}
 use mathlib.Core.Logic.{_⊎_, inl, inr, ⊎-elim}
-use mathlib.Core.Bool.{Bool, true, false, not, _&&_, _||_, true≢false}
+use mathlib.Core.Bool.{Bool, true, false, cond, not, _&&_, _||_, true≢false}
 use mathlib.Core.List.{List, _++_}
 use mathlib.Core.Option.{Option, none, some}
-use Prim.Native.Nat.{ℕ, zero, suc, _+_, _-_}
-use borrow.Author.Tests.{eq-eqb, eqb-true, not-false}
+use Prim.Native.Nat.{ℕ, zero, suc}
+use borrow.Author.Tests.{eq-eqb, eqb-true}
 use Rattle.number.proofs.TestLaws.{false-of, not-both}
 use Rattle.map.specs.FormMap.{FormMap}
 use Rattle.map.specs.Map.{goodMap}
@@ -20,14 +20,13 @@ use Rattle.plain.proofs.HasLaws.{has-any}
 use Rattle.plain.proofs.JoinLaws.{true-or}
 use Rattle.plain.proofs.ListLaws.{find-has}
 use Rattle.plain.proofs.RunLaws as plain
-use Rattle.shadows.specs.Shadows.{Shadows, lengthsFit, shadowOps, image}
+use Rattle.shadows.specs.Shadows.{Shadows, shadowOps, image}
 use Rattle.monitor_base.specs.Calls.{refusals, call}
 use Rattle.monitor_base.proofs.LocatingLaws.{null-inside}
 use Rattle.demands.specs.Addresses.{inHeap, inStack}
 use Rattle.demands.specs.Demand1.{numberOf}
 use Rattle.demands.specs.Removals.{FreeOfStack, RemoveElsewhere, EachItsArea, BaseOf, FreeExactly, RemoveExactly}
-use Rattle.demands.proofs.Numbers.{number-first, apart-words, stack-words}
-use Rattle.demands.proofs.Demand1.{accepted-exactly}
+use Rattle.demands.proofs.Numbers.{number-first, none-holds, apart-words, stack-words}
 use Rattle.demands.proofs.Demand3.{on-every-image}
 
 -- ---- what follows from arguments and map
@@ -49,8 +48,6 @@ remove-elsewhere m ok a i =
     let k : isStack (mapRules m) a ≡ false = stack-words m ok a ∙ i in
     (λ s fit. rw (ok, fit, k), λ bs. rw k)
 
--- ---- by the reading
-
 -- ---- each in its area
 
 -- an accepted call alone alters anything
@@ -64,21 +61,25 @@ unaltered m c s part h = go (firstOf (refusals m c s)) (number-first m c s)
     go zero e = h e
     go (suc k) e = refl
 
--- in neither area and not in the stack: in the heap
-in-heap : (h k : Bool) → (not h && not k) ≡ false → k ≡ false → h ≡ true
+-- neither 4 nor 15 of free: in the heap; not 4 of remove: not there
+in-heap : (h k : Bool) → not (h || k) ≡ false → ((h || k) && not (cond h true false)) ≡ false → h ≡ true
 in-heap true k o n = refl
 in-heap false true o n = absurd (true≢false n)
 in-heap false false o n = absurd (true≢false o)
 
+not-heap : (h k : Bool) → not ((h || k) && not (cond h true false)) ≡ false → h ≡ false
+not-heap true k o = absurd (true≢false o)
+not-heap false k o = refl
+
 freed-heap : (m : FormMap) (x : ℕ) (s : Shadows) → numberOf m (free (suc x)) s ≡ 0 → inHeap m (suc x) ≡ true
 freed-heap m x s e =
-    let h = accepted-exactly m (free (suc x)) s .1 e in
-    in-heap (inHeap m (suc x)) (inStack m (suc x)) (h .1 .1 .1 .0) (h .1 .1 .1 .1 .1 .1 .0)
+    let (one, (two, (four, (fifteen, later)))) = none-holds m (free (suc x)) s refl e in
+    in-heap (inHeap m (suc x)) (inStack m (suc x)) four fifteen
 
 removed-stack : (m : FormMap) (a : ℕ) (s : Shadows) → numberOf m (remove a) s ≡ 0 → inHeap m a ≡ false
 removed-stack m a s e =
-    let h = accepted-exactly m (remove a) s .1 e in
-    false-of (inHeap m a) (λ t. apart-words m (not-false (goodMap m) (h .0)) a t (not-false (inStack m a) (h .1 .1 .1 .0)))
+    let (one, (two, (four, later))) = none-holds m (remove a) s refl e in
+    not-heap (inHeap m a) (inStack m a) four
 
 pub each-its-area : (m : FormMap) → EachItsArea m
 each-its-area m a s = (frees a, unaltered m (remove a) s (λ t. t .0) (λ e. rw (removed-stack m a s e)))

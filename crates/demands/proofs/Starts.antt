@@ -30,8 +30,9 @@ use Rattle.demands.specs.Addresses.{inHeap, inStack, bitPosition}
 use Rattle.demands.specs.Demand1.{numberOf}
 use Rattle.demands.specs.Alters.{inPlace, writtenAt, literalAt, BytesStart}
 use Rattle.demands.proofs.Begun as begun
-use Rattle.demands.proofs.Demand2.{not-both-areas, image-listed}
+use Rattle.demands.proofs.Demand2.{image-listed}
 use Rattle.demands.proofs.MarkLaws.{aligned-sub, bits-among}
+use Rattle.demands.proofs.Numbers.{apart-words}
 use Rattle.demands.proofs.Readings.{blocks-read}
 use Rattle.demands.proofs.Alters.{record-stamps}
 
@@ -95,7 +96,7 @@ module _ (m : FormMap) (w : Beginning) (b l : ℕ) (s : Shadows) (e : numberOf m
           let hi : b + l ≤ m .«stack_start» + m .«stack_size» = leb-true (b + l) (m .«stack_start» + m .«stack_size») (u .0) in
           let st = within-true (m .«stack_start») (m .«stack_size») b (u .1) in
           let sx : inStack m x ≡ true = true-within (m .«stack_start») (m .«stack_size») x (omega arith) (omega arith) in
-          let hx : inHeap m x ≡ false = false-of (inHeap m x) (λ y. not-both-areas m (A .good) x y sx) in
+          let hx : inHeap m x ≡ false = false-of (inHeap m x) (λ y. apart-words m (A .good) x y sx) in
           let q : ℕ = x - m .«stack_start» in
           let pl : inPlace m b l (primary q) ≡ true =
           rw h (in-true (b - m .«stack_start») (b - m .«stack_start» + l) q (omega arith) (omega arith)) in

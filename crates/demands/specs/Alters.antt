@@ -1,5 +1,5 @@
--- Demand 1, what the calls that write alter, on any shadows, images or not: where record, free and written are accepted, every byte afterwards.
--- (What remove leaves is `RemoveByReading` of Removals.antt, what clear leaves `ClearedRun` of Demand3.antt.) Proved in proofs/Alters.antt. Assumes nothing.
+-- What every call leaves of the shadows' lengths and, on any shadows, images or not, every byte after an accepted recording. `BytesStart` is proved in
+-- proofs/Starts.antt, the others in proofs/Alters.antt. Assumes nothing.
 use mathlib.Core.Path.{_≡_}
 use mathlib.Core.Bool.{Bool, cond, not, _&&_}
 use mathlib.Core.List.{[], _∷_}

@@ -1,6 +1,6 @@
 -- Request S-1, the ways to record, what is said of them together. Proved in proofs/Begun.antt. Assumes nothing.
 use mathlib.Core.Path.{_≡_}
-use Prim.Native.Nat.{ℕ, _-_}
+use Prim.Native.Nat.{ℕ}
 use Rattle.map.specs.FormMap.{FormMap}
 use Rattle.plain.specs.Call.{record-block, record-written, written, answer, number}
 use Rattle.shadows.specs.Shadows.{Shadows}

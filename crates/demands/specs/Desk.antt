@@ -1,9 +1,9 @@
 -- Request S-8, the desk simulator: what is said of its sizes that would fail if shadows and plain list had others, both at once. That the three demands
--- hold for the desk as for every form is `every-form` and `desk-form` of the promises; its samples are in crates/specification_samples. Proved in
+-- hold for the desk is `desk-first`, `desk-second` and `desk-third` of the promises; its samples are in crates/specification_samples. Proved in
 -- proofs/Desk.antt. Assumes nothing.
 use mathlib.Core.Path.{_≡_}
 use mathlib.Core.Bool.{true, cond}
-use Prim.Native.Nat.{ℕ, _+_, _*_, _-_, _/_, _≤_, _<_}
+use Prim.Native.Nat.{ℕ, _+_, _*_, _-_, _≤_, _<_}
 use lib.Dec.{leb}
 use Rattle.map.specs.declared.Map.{Map}
 use Rattle.map.specs.FormMap.{FormMap, desk}
@@ -15,10 +15,6 @@ use Rattle.demands.specs.Addresses.{inHeap}
 use Rattle.demands.specs.Demand1.{numberOf}
 
 -- ---- every form
-
--- where the segment of an address begins in the heap shadow, and the number there
-abbrev pub segmentAt : FormMap → (a : ℕ) → ℕ
-segmentAt m a = (a - m .«heap_start») / m .segment * m .segment
 
 -- on any shadows: right after a heap block is recorded, ask of each address of its whole segments answers base, length and offset, and that the byte is
 -- not written; past the block's end it is "no block", to the end of its last segment, and so it is in the header

@@ -11,5 +11,4 @@ pub mod Null
 pub mod Places
 pub mod Removals
 pub mod Literals
-pub mod Numbers
 pub mod Told

@@ -1,5 +1,5 @@
 -- Request S-5, text that may only be read: what is said of it that would fail if it were built wrongly on both sides, shadows and plain list.
--- Proved in proofs/Literals.antt. Assumes nothing.
+-- Proved in proofs/Literals.antt and LiteralBegun.antt. Assumes nothing.
 use mathlib.Core.Path.{_≡_}
 use mathlib.Core.Bool.{Bool, true, false, cond}
 use mathlib.Core.List.{List}
@@ -40,8 +40,6 @@ WriteExactly m =
     → ((b : Block) → HeldBy b bs a n from → b .literal ≡ false → call m (valid-write a n from) (image m bs) ≡ (image m bs, answer 0 1 0 0 0))
     × (((b : Block) → HeldBy b bs a n from → b .literal ≡ false → ⊥)
     → call m (valid-write a n from) (image m bs) ≡ (image m bs, answer 0 0 0 0 0))
-
--- ---- bit 1
 
 -- ---- a literal stays as it is
 

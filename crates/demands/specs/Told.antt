@@ -1,6 +1,5 @@
--- Demand 1, what an accepted call answers, on any shadows, images or not: every field, out of the readings (Addresses.antt) and the written bits
--- (Alters.antt) of addresses and, for place, the gaps (Gaps.antt). Written from document 01, of its own beside the definitions by which a call
--- answers. Proved in proofs/Told.antt. Assumes nothing.
+-- What a reading (Addresses.antt) tells, on any shadows, images or not, against the written bits (Alters.antt). Proved in proofs/Readings.antt.
+-- Assumes nothing.
 use mathlib.Core.Path.{_≡_}
 use mathlib.Core.Bool.{Bool, true, false}
 use Prim.Native.Nat.{ℕ, _+_, _≤_, _<_}

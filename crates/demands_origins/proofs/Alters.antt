@@ -1,59 +1,30 @@
--- What each call of the form with origins alters of the cells and the counter, proved: see specs/Alters.antt for what each says. Assumes nothing.
+-- What each call of the form with origins leaves, proved: see specs/Alters.antt for what each says. Assumes nothing.
 use mathlib.Core.Path.{_≡_, refl, sym, _∙_}
-use mathlib.Core.Bool.{false, not, _||_}
+use mathlib.Core.Bool.{Bool, true, false, cond, not}
 use Prim.Native.Nat.{ℕ, zero, suc, _*_}
+use native.Mathlib.Omega.{arith}
 use lib.ListN.{length, length-replicate}
-use lib.Dec.{eqb}
-use borrow.Author.Tests.{not-false, eqb-true}
-use Rattle.number.proofs.TestLaws.{Test, is-true, is-false, test, or-false}
+use Rattle.number.proofs.TestLaws.{Test, is-true, is-false, test}
 use Rattle.number.proofs.PartLaws.{length-over}
 use Rattle.map.specs.declared.Map.{Map}
 use Rattle.map.specs.FormMap.{player}
 use Rattle.map.specs.Map.{goodMap}
-use Rattle.map.proofs.MapLaws.{Good, good-true}
 use Rattle.plain.specs.Areas.{mapRules}
 use Rattle.plain.specs.Join.{writeOne}
-use Rattle.plain.specs.Call.{clear, begin, free, remove, written, ask, valid, initialised, next, audit, place, Answer, firstOf, unless}
+use Rattle.plain.specs.Call.{Answer, firstOf, unless}
 use Rattle.shadows.specs.Shadows.{lengthsFit, shadowOps}
 use Rattle.demands.specs.Addresses.{inHeap}
-use Rattle.origins_list.specs.Call.{Call, plain, point, copy, live}
-use Rattle.origins_list.specs.StateCalls.{stateAfter, stateAnswer}
+use Rattle.origins_list.specs.Call.{Call, plain, point, copy, live, Role, clears, begins, ends, leaves, roleOf}
+use Rattle.origins_list.specs.StateCalls.{cellsBy, stateAfter, stateAnswer}
 use Rattle.cells_layout.specs.Area.{setHalf, zeroCells}
-use Rattle.cells_layout.specs.Cells.{Cells, cellOps}
+use Rattle.cells_layout.specs.Cells.{Cells, cellsFit, cellOps}
+use Rattle.cells_layout.proofs.FitLaws.{CellLengths, cells-fit-true}
 use Rattle.origins_base.specs.Calls.{State, refusals, call}
-use Rattle.demands_origins.specs.Numbers.{lengthsDiffer}
-use Rattle.demands_origins.specs.Demand1.{numberOf}
 use Rattle.demands_origins.specs.Alters.{ShadowsLeft, CellLengthsKept}
-use Rattle.demands_origins.proofs.Numbers.{number-first}
-use Rattle.demands_origins.proofs.Demand1.{accepted-exactly}
-use Rattle.demands_origins.proofs.CellLaws.{CellsLong}
 
--- ---- what an accepted call says
-
+-- what an accepted call leaves and answers
 abbrev does : Map → Call → State → State × Answer
 does m c x = (stateAfter (mapRules (player m)) (shadowOps (player m)) (cellOps m) c x, stateAnswer (mapRules (player m)) (shadowOps (player m)) (cellOps m) c x)
-
--- of the map and the lengths
-cells-long : (m : Map) (x : State) → lengthsDiffer m x ≡ false → CellsLong m (x .cells)
-cells-long m x e =
-    let a = or-false (not (lengthsFit (player m) (x .shadows)) || not (eqb (length (x .cells .0)) (2 * m .«heap_size»))) _ e in
-    let b = or-false (not (lengthsFit (player m) (x .shadows))) _ (a .0) in
-    (eqb-true _ _ (not-false _ (b .1)), eqb-true _ _ (not-false _ (a .1)))
-
-record Checked (m : Map) (x : State) : Type 0 where
-  good : Good (player m)
-  long : CellsLong m (x .cells)
-
-checked : (m : Map) (c : Call) (x : State) → numberOf m c x ≡ 0 → Checked m x
-checked m c x e =
-    let h = accepted-exactly m c x .1 e in
-    record { good = good-true (player m) (not-false (goodMap (player m)) (h .0)); long = cells-long m x (h .1 .0) }
-
--- ---- recording
-
--- ---- free and remove
-
--- ---- clear
 
 -- ---- what stays
 
@@ -96,29 +67,30 @@ module _ (m : Map) where
       go (is-true h) = rw h (length-over _ _ _ (x .0), refl)
       go (is-false h) = rw h (refl, length-over _ _ _ (x .1))
 
-  after-long : (c : Call) (x : State) → CellsLong m (x .cells) → AsLong (x .cells) ((does m c x) .0 .cells)
-  after-long (plain clear) x f = (length-replicate (2 * m .«heap_size») 0 ∙ sym (f .0), length-replicate (2 * m .«stack_size») 0 ∙ sym (f .1))
-  after-long (plain (begin h b l)) x f = set-long (x .cells) b _ _ (x .counter)
-  after-long (plain (free zero)) x f = (refl, refl)
-  after-long (plain (free (suc b))) x f = zeroed-long (x .cells) (suc b) _
-  after-long (plain (remove b)) x f = zeroed-long (x .cells) b _
-  after-long (plain (written a n)) x f = (refl, refl)
-  after-long (plain (ask a)) x f = (refl, refl)
-  after-long (plain (valid w a n from)) x f = (refl, refl)
-  after-long (plain (initialised a n)) x f = (refl, refl)
-  after-long (plain (next a)) x f = (refl, refl)
-  after-long (plain audit) x f = (refl, refl)
-  after-long (plain (place l k)) x f = (refl, refl)
+  by-role : (r : Role) (x : State) → CellLengths m (x .cells) → AsLong (x .cells) (cellsBy (mapRules (player m)) (shadowOps (player m)) (cellOps m) r x)
+  by-role clears x f = (length-replicate (2 * m .«heap_size») 0 ∙ sym (f .0), length-replicate (2 * m .«stack_size») 0 ∙ sym (f .1))
+  by-role (begins b l) x f = set-long (x .cells) b _ _ (x .counter)
+  by-role (ends b) x f = zeroed-long (x .cells) b _
+  by-role leaves x f = (refl, refl)
+
+  after-long : (c : Call) (x : State) → CellLengths m (x .cells) → AsLong (x .cells) ((does m c x) .0 .cells)
+  after-long (plain c) x f = by-role (roleOf c) x f
   after-long (point c a) x f = set-long (x .cells) c _ _ _
   after-long (copy t g) x f = set-long (x .cells) t _ _ _
   after-long (live c a) x f = (refl, refl)
+
+-- where the number is 0 the cells fit
+cells-fit : (g f c : Bool) (k : ℕ) → cond (not g) 1 (cond (not f) 2 (cond (not c) 2 k)) ≡ 0 → c ≡ true
+cells-fit true true true k e = refl
+cells-fit true true false k e = absurd (omega arith)
+cells-fit true false c k e = absurd (omega arith)
+cells-fit false f c k e = absurd (omega arith)
 
 pub cell-lengths-kept : CellLengthsKept
 unfolding call
 cell-lengths-kept m c x = go (firstOf (refusals m c x)) refl
   where
     go : (k : ℕ) → firstOf (refusals m c x) ≡ k → AsLong (x .cells) ((unless k x (does m c x)) .0 .cells)
-    go zero z = after-long m c x (checked m c x (number-first m c x ∙ z) .long)
+    go zero z =
+        after-long m c x (cells-fit-true m (x .cells) (cells-fit (goodMap (player m)) (lengthsFit (player m) (x .shadows)) (cellsFit m (x .cells)) _ z))
     go (suc k) z = (refl, refl)
-
--- ---- kinds 11 to 13

@@ -1,15 +1,13 @@
--- The operations on cells by addresses, against the bytes of a cell at twice its address's position in its area. For any bytes. Assumes nothing.
+-- What a cell holds, by its address, in the bytes at twice its position in its area. For any bytes. Assumes nothing.
 use mathlib.Core.Path.{_≡_}
-use mathlib.Core.Bool.{false}
-use Prim.Native.Nat.{ℕ, _+_, _*_, _-_, _%_, _≤_}
+use Prim.Native.Nat.{ℕ, _+_, _*_, _-_, _%_}
 use native.Mathlib.Omega.{arith}
-use lib.ListN.{length}
 use Rattle.number.proofs.TestLaws.{same-test}
 use Rattle.map.specs.declared.Map.{Map}
 use Rattle.map.specs.FormMap.{player}
 use Rattle.map.specs.Map.{within}
 use Rattle.map.proofs.MapLaws.{Good, within-true, true-within}
-use Rattle.demands.specs.Addresses.{inHeap, outside}
+use Rattle.demands.specs.Addresses.{inHeap}
 use Rattle.cells_layout.specs.Area.{originPlace, referentPlace}
 use Rattle.cells_layout.specs.Cells.{Cells, cellOps}
 use Rattle.demands_origins.specs.Alters.{cellStart, originIn, referentIn}
@@ -46,11 +44,3 @@ module _ (m : Map) (g : Good (player m)) where
   pub referent-words : (x : Cells) (c : ℕ) → c % 4 ≡ 0 → cellOps m .referent x c ≡ referentIn m x c
   referent-words x c e =
       rw (referent-place (m .«heap_start») c (g .heapStartWhole), referent-place (m .«stack_start») c (g .stackStart8), cell-start c e)
-
--- ---- a half of a cell is set
-
--- as long as the map says
-abbrev pub CellsLong : Map → Cells → Type 0
-CellsLong m x = (length (x .0) ≡ 2 * m .«heap_size») × (length (x .1) ≡ 2 * m .«stack_size»)
-
--- ---- the cells that touch a block are zeroed

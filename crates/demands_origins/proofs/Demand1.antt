@@ -1,21 +1,16 @@
--- Demand 1 for the form with origins, proved: see specs/Demand1.antt for what each says. Assumes nothing.
-use mathlib.Core.Path.{_≡_, refl, sym, _∙_}
+-- Demand 1 for the form with origins, proved: see specs/Demand1.antt for what it says. Assumes nothing.
+use mathlib.Core.Path.{_≡_, refl}
 use mathlib.Core.Logic.{_≢_}
 use Prim.Native.Nat.{ℕ, zero, suc}
-use native.Mathlib.Omega.{arith}
-use Rattle.map.specs.declared.Map.{Map}
 use Rattle.map.specs.FormMap.{player}
 use Rattle.plain.specs.Areas.{mapRules}
 use Rattle.plain.specs.Call.{Answer, number, refusal, firstOf, unless}
 use Rattle.shadows.specs.Shadows.{shadowOps}
-use Rattle.demands.proofs.RowLaws.{Ascending, first-none, none-first}
-use Rattle.origins_list.specs.Call.{Call}
 use Rattle.origins_list.specs.StateCalls.{stateAfter, stateAnswer}
 use Rattle.cells_layout.specs.Cells.{cellOps}
 use Rattle.origins_base.specs.Calls.{State, refusals, call}
-use Rattle.demands_origins.specs.Numbers.{rows}
-use Rattle.demands_origins.specs.Demand1.{RefusedAltersNothing, AcceptedExactly}
-use Rattle.demands_origins.proofs.Numbers.{answered-0, by-rows}
+use Rattle.demands_origins.specs.Demand1.{RefusedAltersNothing}
+use Rattle.demands_origins.proofs.Numbers.{answered-0}
 
 pub refused-alters-nothing : RefusedAltersNothing
 unfolding call
@@ -27,13 +22,3 @@ refused-alters-nothing m c x h = go (firstOf (refusals m c x)) h
     go : (k : ℕ) → number ((does k) .1) ≢ 0 → does k ≡ (x, refusal (number ((does k) .1)))
     go zero h = absurd (h (answered-0 m c x))
     go (suc k) h = refl
-
-ascending : (m : Map) (c : Call) (x : State) → Ascending 0 (rows m c x)
-ascending m c x =
-    (omega arith, (omega arith, (omega arith, (omega arith, (omega arith, (omega arith, (omega arith, (omega arith, (omega arith, (omega arith, (omega arith, (omega arith, (omega arith, tt)))))))))))))
-
-pub accepted-exactly : AcceptedExactly
-accepted-exactly m c x = (
-  λ h. by-rows m c x ∙ first-none (rows m c x) h,
-  λ e. none-first (rows m c x) 0 (ascending m c x) (sym (by-rows m c x) ∙ e),
-)

@@ -1,5 +1,5 @@
--- Request S-4: what each call of the form with origins alters of the cells and the counter, on any bytes, and what kind 13 answers there. (What it
--- alters of the three block shadows: PlainKinds.antt for the plain kinds.) Proved in proofs/Alters.antt. Assumes nothing.
+-- Request S-4: the two numbers of a cell; kinds 11 to 13 leave the three block shadows (the plain kinds: PlainKinds.antt), and every call leaves the
+-- cells' lengths, on any bytes. Proved in proofs/Alters.antt. Assumes nothing.
 use mathlib.Core.Path.{_≡_}
 use mathlib.Core.Bool.{cond}
 use Prim.Native.Nat.{ℕ, _+_, _*_, _-_, _%_}

@@ -72,7 +72,7 @@ ClearedRun =
     → stateRun m x (plain clear ∷ cs) ≡ listRun m (firstListAt (x .counter)) (plain clear ∷ cs))
 
 -- "After each call the cells hold exactly these: a live block's origin at its base's cell, a set pointer's referent at its own, zero elsewhere":
--- each cell of the areas, its two numbers of four bytes, are those of the list, which is 0 elsewhere (`ReachedCarries`)
+-- each cell of the areas, its two numbers of four bytes, are those of the list, which is 0 elsewhere (`StaysCarried`)
 abbrev pub CellsHold : Type 0
 CellsHold =
     (m : Map) → goodMap (player m) ≡ true → (k : ℕ) → 1 ≤ k → k ≤ 4294967296 → (cs : List Call) (c : ℕ) → outside (player m) c ≡ false → c % 4 ≡ 0

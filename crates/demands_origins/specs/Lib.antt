@@ -1,4 +1,3 @@
-pub mod Numbers
 pub mod Demand1
 pub mod PlainKinds
 pub mod Alters

@@ -13,17 +13,16 @@ use Rattle.number.proofs.TestLaws.{Test, is-true, is-false, test, cond-both}
 use Rattle.map.specs.FormMap.{FormMap, areas}
 use Rattle.types.specs.Block.{Block}
 use Rattle.types.specs.Shadows.{Shadows}
-use Rattle.types.specs.Call.{Call, clear, begin, free, remove, written, ask, valid, initialised, next, audit, place, firstOf, unless}
+use Rattle.types.specs.Call.{Call, firstOf, unless}
 use Rattle.plain.specs.Areas.{mapRules}
-use Rattle.plain.specs.Block.{begun}
-use Rattle.plain.specs.Ops.{markRange, readAny}
-use Rattle.plain.specs.ShadowCalls.{lengthOf, shadowsAfter, shadowAnswer}
+use Rattle.plain.specs.ShadowCalls.{shadowsAfter, shadowAnswer}
 use Rattle.heap_layout.specs.Ops.{heapStamp, heapErase, heapMark}
 use Rattle.heap_layout.proofs.ByteLaws.{heap-byte-lt}
 use Rattle.stack_layout.specs.Ops.{stackStamp, stackErase, stackMark}
 use Rattle.stack_layout.proofs.ByteLaws.{primary-byte-lt, secondary-byte-lt}
 use Rattle.shadows.specs.Shadows.{shadowOps}
 use Rattle.monitor_base.specs.Calls.{refusals, call}
+use Rattle.demands.proofs.Alters.{Keeps, after-keeps}
 use Rattle.specification.specs.Map.{inHeap}
 use Rattle.specification.specs.Votes.{AllBytes}
 
@@ -51,7 +50,7 @@ bit-byte : (x j : ℕ) → x < 256 → withBit x (j % 8) < 256
 unfolding withBit
 bit-byte x j l = or-lt 8 x (2 ^ (j % 8)) l (pow-lt {i = j % 8} {j = 8} (omega arith))
 
--- ---- what each call writes
+-- ---- what the calls write
 
 module _ (m : FormMap) where
   stamp-bytes : (s : Shadows) (b : Block) → AllBytes s → AllBytes (shadowOps m .stamp s b)
@@ -78,29 +77,19 @@ module _ (m : FormMap) where
       go (is-true e) = rw e (set-bytes (s .0) h _ _ (bit-byte _ _ (byte-at (s .0) h _)), p, k)
       go (is-false e) = rw e (h, set-bytes (s .1 .0) p _ _ (omega (arith, byte-at (s .1 .0) p (a - m .«stack_start»))), k)
 
-  range-bytes : (n a : ℕ) (s : Shadows) → AllBytes s → AllBytes (markRange (shadowOps m) s a n)
-  unfolding markRange
-  range-bytes zero a s b = b
-  range-bytes (suc n) a s b = range-bytes n (suc a) (shadowOps m .mark s a) (mark-bytes s a b)
-
-  after-bytes : (c : Call) (s : Shadows) → AllBytes s → AllBytes (shadowsAfter (mapRules m) (shadowOps m) c s)
-  after-bytes clear s b = (zero-bytes (m .«heap_size»), zero-bytes (m .«stack_size»), zero-bytes (m .«stack_size»))
-  after-bytes (begin how x l) s b = stamp-bytes s (begun how x l) b
-  after-bytes (free zero) s b = b
-  after-bytes (free (suc x)) s b = erase-bytes s (suc x) (lengthOf (readAny (mapRules m) (shadowOps m) s (suc x))) b
-  after-bytes (remove x) s b = erase-bytes s x (lengthOf (readAny (mapRules m) (shadowOps m) s x)) b
-  after-bytes (written a n) s b = range-bytes n a s b
-  after-bytes (ask a) s b = b
-  after-bytes (valid w a n from) s b = b
-  after-bytes (initialised a n) s b = b
-  after-bytes (next a) s b = b
-  after-bytes audit s b = b
-  after-bytes (place l k) s b = b
+  keeps : Keeps m AllBytes
+  keeps =
+      record {
+        cleared = (zero-bytes (m .«heap_size»), zero-bytes (m .«stack_size»), zero-bytes (m .«stack_size»));
+        stamped = stamp-bytes;
+        erased = erase-bytes;
+        marked = mark-bytes;
+      }
 
   pub bytes-kept : (c : Call) (s : Shadows) → AllBytes s → AllBytes (call m c s .0)
   unfolding call
   bytes-kept c s b = go (firstOf (refusals m c s))
     where
       go : (k : ℕ) → AllBytes ((unless k s (shadowsAfter (mapRules m) (shadowOps m) c s, shadowAnswer (mapRules m) (shadowOps m) c s)) .0)
-      go zero = after-bytes c s b
+      go zero = after-keeps m AllBytes keeps c s b
       go (suc k) = b

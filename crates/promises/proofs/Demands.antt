@@ -1,7 +1,7 @@
 -- What the forms have in common, proved: see specs/Demands.antt. Assumes nothing.
 use Rattle.map.specs.FormMap.{FormMap}
 use Rattle.promises.specs.Demands.{Demands}
-use Rattle.demands.proofs.Demand1.{refused-alters-nothing, questions-alter-nothing}
+use Rattle.demands.proofs.Demand1.{refused-alters-nothing}
 use Rattle.demands.proofs.Alters.{lengths-kept}
 use Rattle.demands.proofs.Demand2.{few-bytes, image-shape, one-image, audit-accepts, audit-only, audit-refuses, read-back}
 use Rattle.demands.proofs.Demand3.{on-every-image, stays-placed, whole-run, no-damage, cleared-run}
@@ -16,7 +16,6 @@ pub demands : (m : FormMap) → Demands m
 demands m =
     record {
       refused-alters-nothing = refused-alters-nothing m;
-      questions-alter-nothing = questions-alter-nothing m;
       lengths-kept = lengths-kept m;
       few-bytes = few-bytes m;
       image-shape = image-shape m;

@@ -1,6 +1,5 @@
 pub mod Demands
 pub mod Promises
-pub mod ByTable
 pub mod BytesKept
 pub mod FirstVote
 pub mod LooksAlike
@@ -11,3 +10,4 @@ pub mod OriginsFirst
 pub mod OriginsHistory
 pub mod OriginsVotes
 pub mod PointerVote
+pub mod ProgramVotes

@@ -2,6 +2,7 @@
 use mathlib.Core.Path.{_≡_, refl, _∙_}
 use mathlib.Core.Logic.{_≢_}
 use mathlib.Core.Bool.{Bool, true, false, cond, not, _&&_, _||_}
+use mathlib.Core.List.{List, [], _∷_}
 use Prim.Native.Nat.{ℕ, zero, suc, _%_}
 use native.Mathlib.Omega.{arith}
 use lib.Dec.{leb, eqb}
@@ -9,9 +10,8 @@ use borrow.Author.Tests.{ne-eqb, eqb-true, eqb-false}
 use Rattle.number.proofs.TestLaws.{Test, is-true, is-false, test}
 use Rattle.map.specs.FormMap as library
 use Rattle.types.specs.Call as plains
-use Rattle.types.specs.Call.{clear, begin, free, remove, written, ask, valid, initialised, next, audit, place, Answer, number, refusal, firstOf, unless}
+use Rattle.types.specs.Call.{clear, begin, free, remove, written, ask, valid, initialised, next, audit, place, Answer, number, refusal, Refusal, firstOf, unless}
 use Rattle.types.specs.Origins.{Call, plain, point, copy, live}
-use Rattle.demands.proofs.RowLaws.{pastTwo}
 use Rattle.demands.proofs.Alters as plain-alters
 use Rattle.demands_origins.proofs.Demand1 as demand
 use Rattle.demands_origins.proofs.PlainKinds as kinds
@@ -28,6 +28,12 @@ use Rattle.specification_origins.specs.Cells.{rightCells}
 use Rattle.specification_origins.specs.Origins.{Lent, lastOrigin, call}
 use Rattle.specification_origins.specs.Votes.{numberOf, rows, FirstVote}
 use Rattle.specification_origins.proofs.OriginsSame.{call-same}
+
+-- the rows from 3 on
+abbrev pastTwo : List Refusal → List Refusal
+pastTwo [] = []
+pastTwo (r ∷ []) = []
+pastTwo (q ∷ (r ∷ rs)) = rs
 
 -- ---- the numbers of the plain kinds. g, f, c: the map is good, shadows and cells have their lengths; r: the player's answer
 

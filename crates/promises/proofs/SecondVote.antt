@@ -35,7 +35,7 @@ use Rattle.specification.proofs.Forms.{form}
 use Rattle.specification.proofs.BlocksSame.{find-same}
 use Rattle.specification.proofs.AuditSame.{of-image, is-image}
 use Rattle.specification.proofs.Same.{good-same, lengths-same, reading-same, image-same, stand-placed, placed-stand}
-use Rattle.promises.proofs.ByTable.{accepted-rows}
+use Rattle.specification.proofs.ByTable.{accepted-only}
 use Rattle.promises.proofs.LooksAlike.{looksBy, few-bytes, reads-alike}
 
 module _ (f : kind.Form) (m : Map) where
@@ -84,7 +84,7 @@ module _ (f : kind.Form) (m : Map) where
 
   only : (s : Shadows) → numberOf F m audit s ≡ 0 → (F .good m ≡ true) × ((bs : List Block) × Stands F m bs × (s ≡ image F m bs))
   only s z =
-      let h = accepted-rows F m audit s z in
+      let h = accepted-only F m audit s z in
       let g = not-false (F .good m) (h .0) in
       let (st, e) = image-of s g (not-false (rightLengths m s) (h .1 .0)) (not-false (isImage F m s (listOf F m s)) (h .1 .1 .1 .1 .1 .1 .1 .0)) in
       (g, (listOf F m s, st, e))

@@ -2,7 +2,7 @@
 -- Each stands in crates/demands/specs, over the generic `call`. What they say to a reader is said over the specification, in Promises.antt, for the two
 -- forms. Assumes nothing.
 use Rattle.map.specs.FormMap.{FormMap}
-use Rattle.demands.specs.Demand1.{RefusedAltersNothing, QuestionsAlterNothing}
+use Rattle.demands.specs.Demand1.{RefusedAltersNothing}
 use Rattle.demands.specs.Alters.{LengthsKept}
 use Rattle.demands.specs.Demand2.{FewBytes, ImageShape, OneImage, AuditAccepts, AuditOnly, AuditRefuses, ReadBack}
 use Rattle.demands.specs.Demand3.{WholeRun, NoDamage, ClearedRun, OnEveryImage, StaysPlaced}
@@ -15,7 +15,6 @@ use Rattle.demands.specs.Removals.{FreeOfStack, RemoveElsewhere, EachItsArea, F
 pub record Demands (m : FormMap) : Type 0 where
   -- ---- demand 1
   pub refused-alters-nothing : RefusedAltersNothing m
-  pub questions-alter-nothing : QuestionsAlterNothing m
   pub lengths-kept : LengthsKept m
   -- ---- demand 2; a reading looks at two numbers and a byte at most
   pub few-bytes : FewBytes m

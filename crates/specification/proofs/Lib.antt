@@ -13,3 +13,4 @@ pub mod BeginSame
 pub mod ImageSame
 pub mod AuditSame
 pub mod Same
+pub mod ByTable

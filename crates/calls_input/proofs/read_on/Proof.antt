@@ -61,7 +61,7 @@ returns : tie.Need-returns Inv-loop μ-loop
 returns c =
     let l = c .before .loop in
     let s = c .before .before .before .before .before .before .before in
-    refilled (s .args .w) (l .filled) (l .more) (now (s .args .buffer)) _ (l .buffer) (s .pre) (l .inv .4) (omega arith) (c .before .before .before .before .settle .ensures) (l .inv .5) (λ t. omega arith)
+    refilled (s .args .w) (l .filled) (l .more) (now (s .args .buffer)) _ (l .buffer) (s .pre) (l .inv .4) (omega arith) (c .before .before .before .before .settle .ensures) (l .inv .5) (λ t. omega arith) (search needs)
 
 same-length-2 : tie.Need-same-length-2 Inv-loop μ-loop
 same-length-2 c = search needs
@@ -70,7 +70,7 @@ returns-2 : tie.Need-returns-2 Inv-loop μ-loop
 returns-2 c =
     let l = c .before .before .loop in
     let s = c .before .before .before .before .before .before .before .before in
-    refilled (s .args .w) (l .filled) (l .more) (now (s .args .buffer)) _ (l .buffer) (s .pre) (l .inv .4) (omega arith) (c .before .before .before .before .before .settle .ensures) (l .inv .5) (λ t. omega arith)
+    refilled (s .args .w) (l .filled) (l .more) (now (s .args .buffer)) _ (l .buffer) (s .pre) (l .inv .4) (omega arith) (c .before .before .before .before .before .settle .ensures) (l .inv .5) (λ t. omega arith) (search needs)
 
 same-length-3 : tie.Need-same-length-3 Inv-loop μ-loop
 same-length-3 c = search needs
@@ -82,6 +82,7 @@ returns-3 c =
     refilled (s .args .w) (l .filled) false (now (s .args .buffer)) _ _ (s .pre) (l .inv .4) (omega arith) (c .before .before .before .before .before .before .before .before .before .before .settle .ensures)
     (before-part _ (l .filled) (l .buffer) _ (l .inv .4) (l .inv .1) ∙ l .inv .5)
     (λ t. absurd (let z : _≡_ {A = ℕ} 0 1 = cc in omega arith))
+    (search needs)
 
 pub read-on-spec : {M : Type 1} → statement M
 read-on-spec =

@@ -63,7 +63,7 @@ put-decimal-put-decimal-requires : (t : ℕ) → put-decimal-lts.Need-put-decima
   put-decimal-below t,
   put-decimal.Post,
 ) (put-decimal-at t) put-decimal.Post
-put-decimal-put-decimal-requires t c κs = (omega arith, omega (arith, length-more (c .before .before .before .args .v) (omega arith) (omega arith)))
+put-decimal-put-decimal-requires t c κs = (omega arith, omega (arith, length-more (c .before .before .before .args .v) (omega arith)))
 
 put-decimal-add-line-2 : (t : ℕ) → put-decimal-lts.Need-add-line-2 (
   put-decimal-below t,
@@ -82,14 +82,14 @@ put-decimal-slice-write-line-2 : (t : ℕ) → put-decimal-lts.Need-slice-write-
   put-decimal.Post,
 ) (put-decimal-at t) put-decimal.Post
 put-decimal-slice-write-line-2 t c =
-    omega (arith, length-more (c .before .before .before .before .before .before .args .v) (omega arith) (omega arith), c .before .before .put-decimal .kept .0)
+    omega (arith, length-more (c .before .before .before .before .before .before .args .v) (omega arith), c .before .before .put-decimal .kept .0)
 
 put-decimal-add-result-2 : (t : ℕ) → put-decimal-lts.Need-add-result-2 (
   put-decimal-below t,
   put-decimal.Post,
 ) (put-decimal-at t) put-decimal.Post
 put-decimal-add-result-2 t c =
-    omega (arith, length-more (c .before .before .before .before .before .before .args .v) (omega arith) (omega arith), c .before .before .put-decimal .kept .0)
+    omega (arith, length-more (c .before .before .before .before .before .before .args .v) (omega arith), c .before .before .put-decimal .kept .0)
 
 put-decimal-same-length-2 : (t : ℕ) → put-decimal-lts.Need-same-length-2 (
   put-decimal-below t,
@@ -101,7 +101,7 @@ put-decimal-returns-2 : (t : ℕ) → put-decimal-lts.Need-returns-2 (
   put-decimal-below t,
   put-decimal.Post,
 ) (put-decimal-at t) put-decimal.Post
-put-decimal-returns-2 t c = wrote-more _ _ _ _ _ (omega arith) (omega arith) (c .before .before .put-decimal .ensures)
+put-decimal-returns-2 t c = wrote-more _ _ _ _ _ (omega arith) (c .before .before .put-decimal .ensures)
 
 pub +put-decimal-spec : {M : Type 1} → statement M
 +put-decimal-spec = close μ-put-decimal λ t. put-decimal-lts.spec (

@@ -11,7 +11,9 @@ put-line-requires c κs = search needs
 
 returns : tie.Need-returns
 returns c =
-    wrote-first _ _ _ _ (c .put-line .ensures) (omega (arith, line-short (c .before .before .args .kind) (answerOf (c .before .before .args .r))))
+    let a = c .before .before .args in
+    let short = line-short (a .kind) (answerOf (a .r)) (omega arith, omega arith, (omega arith, (omega arith, (omega arith, (omega arith, tt))))) in
+    wrote-first _ _ _ _ (c .put-line .ensures) (omega (arith, short))
 
 pub render-spec : {M : Type 1} → statement M
 render-spec = tie.close (tie.spec put-line-requires returns)

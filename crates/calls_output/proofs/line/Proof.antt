@@ -1,5 +1,6 @@
 -- `calls_output::line` meets its contract. Assumes nothing.
 use mathlib.Core.Path.{_≡_, ap, _∙_}
+use Prim.Native.Nat.{_≤_}
 use native.Mathlib.Omega.{arith}
 use lib.ListN.{length, length-append, length-drop}
 use Rattle.monitor_base.specs.Answers.{answerOf}
@@ -13,13 +14,16 @@ use Rattle.calls_output.proofs.line.Tie as tie
 render-requires : tie.Need-render-requires
 render-requires c κs = search needs
 
+-- each number has 32 bits
+short : (c : tie.Start) → length (line (c .args .kind) (answerOf (c .args .answer))) ≤ 58
+short c = line-short _ (answerOf (c .args .answer)) (omega arith, omega arith, (omega arith, (omega arith, (omega arith, (omega arith, tt)))))
+
 -- a line is no longer than its buffer, which keeps its length
 text-length : (c : tie.After-text2) → length (c .before .before .render .last .0) ≡ 64
 text-length c =
     let r = c .before .before in
-    let a = r .before .before .args in
     let e = r .render .ensures in
-    ap length (e .1) ∙ simp (length-append, length-drop) (omega (arith, e .0, line-short (a .kind) (answerOf (a .answer))))
+    ap length (e .1) ∙ simp (length-append, length-drop) (omega (arith, e .0, short (r .before .before)))
 
 slice-aggregate-append : tie.Need-slice-aggregate-append
 slice-aggregate-append c = omega (arith, text-length c)
@@ -27,9 +31,8 @@ slice-aggregate-append c = omega (arith, text-length c)
 append-requires : tie.Need-append-requires
 append-requires c κs =
     let r = c .before .before in
-    let a = r .before .before .args in
-    let short = line-short (a .kind) (answerOf (a .answer)) in
-    (search needs, search needs, omega (arith, r .render .ensures .0, short), omega (arith, r .render .ensures .0, short, text-length c))
+    let s = short (r .before .before) in
+    (search needs, search needs, omega (arith, r .render .ensures .0, s), omega (arith, r .render .ensures .0, s, text-length c))
 
 returns : tie.Need-returns
 returns c =
