@@ -6,11 +6,16 @@ use Prim.Native.Nat.{ℕ, _+_}
 use native.Mathlib.Omega.{arith}
 use lib.ListN.{length, length-append}
 use Rattle.calls_format.specs.Program.{Program, Whole}
+use Rattle.calls_run.specs.declared.Run.{Run}
 use Rattle.calls_run.specs.Begun.{Begun}
-use Rattle.calls_file.specs.Turn.{Point, Turned}
+use Rattle.calls_file.specs.Turn.{Point, Goes, Turned}
 use Rattle.calls_file.specs.File.{printedFile, Turns, came, put, final}
 use Rattle.calls_file.specs.Ran.{Ran, RanPrints}
 use Rattle.calls_file.proofs.FileLaws.{whole-file}
+
+-- the buffers hold nothing yet
+pub begun-goes : (r : Run) → Begun r → Goes r
+begun-goes r b = ((omega (arith, b .1, b .2), omega (arith, b .2)), omega (arith, b .4))
 
 module _ {P : Program} where
   final-more : (p q : Point P) (ps : List (Point P)) → final p (ps ++ (q ∷ [])) ≡ q

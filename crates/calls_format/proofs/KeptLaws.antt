@@ -17,8 +17,8 @@ use Rattle.shadows.specs.Shadows.{zeroShadows, lengthsFit}
 use Rattle.shadows.proofs.ShadowLaws.{true-fit}
 use Rattle.monitor_base.specs.Calls as monitor
 use Rattle.monitor_base.proofs.CallLaws.{call-step}
-use Rattle.calls_format.specs.Kept.{parts, kept}
-use Rattle.calls_format.specs.Running.{zeroMap, firstState, mapNumber, aboveSizes}
+use Rattle.calls_format.specs.Kept.{parts}
+use Rattle.calls_format.specs.Running.{mapNumber, aboveSizes}
 use Rattle.calls_format.proofs.ServeLaws.{accepted-good}
 
 -- ---- a call
@@ -58,10 +58,6 @@ on-parts m c r h p s h′ p′ s′ i j k ei ej ek lh lp ls e =
     (e ∙ rw (take-min h (m .«heap_size») i ei, take-min p (m .«stack_size») j ej, take-min s (m .«stack_size») k ek) refl)
 
 -- ---- an accepted map
-
--- before any map no byte of the buffers counts
-pub first-kept : (h p s : List ℕ) → kept zeroMap h p s ≡ firstState
-first-kept h p s = refl
 
 -- it is within the program's sizes
 pub sizes : (m : Map) → mapNumber m ≡ 0 → (m .«heap_size» ≤ 32768) × (m .«stack_size» ≤ 16384)

@@ -3,6 +3,4 @@ pub mod ProgramLaws
 pub mod LineLaws
 pub mod CopyLaws
 pub mod ServeLaws
-pub mod RunningLaws
 pub mod KeptLaws
-pub mod NewMapSamples

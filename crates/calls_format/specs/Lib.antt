@@ -5,4 +5,3 @@ pub mod Writing
 pub mod Running
 pub mod Kept
 pub mod Program
-pub mod NewMapSamples

@@ -1,22 +1,13 @@
--- A run of a calls program on its requests: the map, the state and the answer of each. The plain program's on shadows, and the same run on the plain
--- list. Assumes nothing.
-use mathlib.Core.Path.{_≡_}
-use mathlib.Core.Bool.{Bool, cond, not, _||_}
+-- How a calls program serves its requests: the map, the state and the answer of each. Assumes nothing.
+use mathlib.Core.Bool.{Bool, not, _||_}
 use mathlib.Core.List.{List, [], _∷_}
-use mathlib.Core.Logic.{_≢_}
 use Prim.Native.Nat.{ℕ}
 use lib.Dec.{ltb}
-use Rattle.number.specs.Parts.{Each}
 use Rattle.map.specs.declared.Map.{Map}
 use Rattle.map.specs.FormMap.{player}
 use Rattle.map.specs.Map.{goodMap}
-use Rattle.plain.specs.Block.{Block}
-use Rattle.plain.specs.Areas.{mapRules}
-use Rattle.plain.specs.Rules.{Rules}
-use Rattle.plain.specs.Call.{Answer, number, Refusal, refusal, done, firstOf, unless}
-use Rattle.plain.specs.PlainList.{plainStep}
-use Rattle.plain.specs.Run.{run}
-use Rattle.shadows.specs.Shadows.{zeroShadows, Shadows, image}
+use Rattle.plain.specs.Call.{Answer, Refusal, done, firstOf, unless}
+use Rattle.shadows.specs.Shadows.{zeroShadows, Shadows}
 use Rattle.monitor_base.specs.Calls as monitor
 use Rattle.calls_format.specs.Records.{Asked, Request, newMap, call}
 
@@ -49,10 +40,6 @@ unfoldable pub serveBy : {C X : Type 0} (cleared : Map → X → X) (callOn : Ma
 serveBy cleared callOn (newMap m) s = unless (mapNumber m) s ((m, cleared m (s .1)), done)
 serveBy cleared callOn (call c) s = underMap (s .0) (callOn (s .0) c (s .1))
 
--- a call on a plain list, of whatever form: refused by 1 under a map that breaks a rule
-abbrev pub listed : {C L : Type 0} (step : Rules → C → L → L × Answer) → Map → C → L → L × Answer
-listed step m c x = cond (goodMap (player m)) (step (mapRules (player m)) c x) (x, refusal 1)
-
 -- ---- the run on shadows
 
 -- the map, and shadows as long as its areas
@@ -65,30 +52,3 @@ firstState = (zeroMap, ([], ([], [])))
 -- an accepted map clears
 unfoldable pub serve : Request → State → State × Answer
 serve r s = serveBy (λ m x. zeroShadows (player m)) (λ m. monitor.call (player m)) r s
-
--- ---- the same run on the plain list
-
--- the map, and the live blocks
-abbrev pub PlainState : Type 0
-PlainState = Map × List Block
-
-abbrev pub firstPlain : PlainState
-firstPlain = (zeroMap, [])
-
--- an accepted map leaves no block
-unfoldable pub servePlain : Request → PlainState → PlainState × Answer
-servePlain r s = serveBy (λ m x. []) (listed plainStep) r s
-
--- the map, and the image of the list
-abbrev pub imageOf : PlainState → State
-imageOf s = (s .0, image (player (s .0)) (s .1))
-
--- ---- what is proved (proofs/RunningLaws.antt)
-
--- for every list of requests: the answers, the map and every shadow byte after each are those of the plain list
-abbrev pub SameRun : Type 0
-SameRun = (rs : List Request) → run (λ (s : State). s) serve firstState rs ≡ run imageOf servePlain firstPlain rs
-
--- and none of the answers is 8
-abbrev pub NeverDamaged : Type 0
-NeverDamaged = (rs : List Request) → Each (λ (r : Answer × State). number (r .0) ≢ 8) (run (λ (s : State). s) serve firstState rs)

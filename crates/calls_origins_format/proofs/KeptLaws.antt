@@ -15,15 +15,11 @@ use Rattle.shadows.specs.Shadows.{zeroShadows}
 use Rattle.cells_layout.specs.Cells.{cellsFit, noCells}
 use Rattle.origins_base.specs.Answers.{lent}
 use Rattle.origins_base.specs.Calls as form
-use Rattle.calls_format.specs.Running.{zeroMap, mapNumber}
+use Rattle.calls_format.specs.Running.{mapNumber}
 use Rattle.calls_format.proofs.ServeLaws.{accepted-good}
 use Rattle.calls_format.proofs.KeptLaws.{take-min, part-back, sizes, parts-fit}
-use Rattle.calls_origins_format.specs.Kept.{parts, kept}
-use Rattle.calls_origins_format.specs.Running.{firstState, cleared}
-
--- before any map no byte of the buffers counts
-pub first-kept : (h p s x y : List ℕ) → kept zeroMap h p s x y 1 ≡ firstState
-first-kept h p s x y = refl
+use Rattle.calls_origins_format.specs.Kept.{parts}
+use Rattle.calls_origins_format.specs.Running.{cleared}
 
 -- a call on parts of the buffers is a call on the shadows and the cells
 module _ (m : Map) (h p s x y : List ℕ) (i j k u v : ℕ)

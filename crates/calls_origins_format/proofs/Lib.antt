@@ -1,4 +1,2 @@
 pub mod RecordLaws
-pub mod RunningLaws
 pub mod KeptLaws
-pub mod Samples

@@ -42,17 +42,6 @@ own-unknown k h j =
     no-kind k (omega arith) (omega arith) (omega arith) (omega arith) (omega arith) (omega arith) (omega arith) (omega arith) (omega arith) (omega arith)
     (omega arith) (omega arith) (omega arith)
 
--- what the plain program decodes is of none of these kinds
-pub decode-asked : (l : List ℕ) (r : records.Request) → records.decode l ≡ some r → decode l ≡ some (asked r)
-decode-asked l r e = go (test (isOwn (kindField l)))
-  where
-    go : Test (isOwn (kindField l)) → decode l ≡ some (asked r)
-    go (is-false t) = decode-plain l t ∙ rw e
-    go (is-true t) =
-        let b = and-true (leb 11 (kindField l)) (leb (kindField l) 13) t in
-        let n = no-record l (own-unknown (kindField l) (leb-true 11 (kindField l) (b .0)) (leb-true (kindField l) 13 (b .1))) in
-        absurd (let z : _≡_ {A = ℕ} 0 1 = cc in omega arith)
-
 -- fewer bytes than a record of these kinds has: what the plain program makes of them
 pub decode-short : (l : List ℕ) → length l < ownLength → decode l ≡ decodePlain (records.decode l)
 decode-short l h = go (test (isOwn (kindField l)))

@@ -3,4 +3,3 @@ pub mod Decoded
 pub mod Running
 pub mod Kept
 pub mod Program
-pub mod Samples

@@ -6,7 +6,6 @@ pub mod Demand2
 pub mod Demand3
 pub mod Desk
 pub mod Gaps
-pub mod GivenShadows
 pub mod Null
 pub mod Places
 pub mod Removals

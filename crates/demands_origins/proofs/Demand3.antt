@@ -32,7 +32,7 @@ use Rattle.origins_base.specs.Calls.{State, call, firstStateAt, imageOf}
 use Rattle.origins_base.proofs.CallLaws.{call-step}
 use Rattle.demands.specs.Addresses.{inHeap, inStack, outside}
 use Rattle.demands_origins.specs.Alters.{originIn, referentIn}
-use Rattle.demands_origins.specs.Demand3.{stateRun, listRun, stateReached, listReached, WholeRun, NoDamage, OnEveryImage, StaysCarried, ClearedRun, CellsHold}
+use Rattle.demands_origins.specs.Demand3.{stateRun, listRun, stateReached, listReached, WholeRun, NoDamage, StaysCarried, ClearedRun, CellsHold}
 use Rattle.demands_origins.proofs.CellLaws.{origin-words, referent-words}
 
 within-one : (h k : Bool) → (not h && not k) ≡ false → (h || k) ≡ true
@@ -99,9 +99,6 @@ whole-run m ok cs =
 pub no-damage : NoDamage
 no-damage m ok cs =
     rw (whole-run m ok cs) (run-each (imageOf m) (originStep (mapRules (player m))) (λ a. number a ≢ 8) (no-8 (mapRules (player m))) cs firstList)
-
-pub on-every-image : OnEveryImage
-on-every-image m ok x C c = one-call m ok x (carried (mapRules (player m)) (sound m ok) x C) c
 
 pub stays-carried : StaysCarried
 stays-carried m ok = (

@@ -17,7 +17,7 @@ use Rattle.origins_list.proofs.CarriedLaws.{first-told, step-judged}
 use Rattle.origins_base.specs.Calls.{State, call, firstStateAt, imageOf}
 use Rattle.demands_origins.specs.Demand1.{numberOf}
 use Rattle.demands_origins.specs.Demand3.{stateReached, listReached}
-use Rattle.demands_origins.specs.Judged.{history, JudgedByHistory, CounterCounts}
+use Rattle.demands_origins.specs.Judged.{history, JudgedByHistory}
 use Rattle.demands_origins.proofs.Demand3.{sound, GoodList, one-call, first-image, first-list, reached}
 
 module _ (m : Map) (ok : goodMap (player m) ≡ true) (k : ℕ) (first : 1 ≤ k) where
@@ -58,6 +58,3 @@ module _ (m : Map) (ok : goodMap (player m) ≡ true) (k : ℕ) (first : 1 ≤ k
 
 pub judged-by-history : JudgedByHistory
 judged-by-history m ok k o n before c a = judges m ok k o n before c a
-
-pub counter-counts : CounterCounts
-counter-counts m ok k o n before = counts m ok k o n before

@@ -5,4 +5,3 @@ pub mod Demand3
 pub mod Judged
 pub mod Numbers
 pub mod PlainKinds
-pub mod Samples

@@ -49,12 +49,6 @@ WholeRun = (m : Map) → goodMap (player m) ≡ true → (cs : List Call) → st
 abbrev pub NoDamage : Type 0
 NoDamage = (m : Map) → goodMap (player m) ≡ true → (cs : List Call) → Each (λ (r : Answer × State). number (r .0) ≢ 8) (stateRun m (firstState m) cs)
 
--- on what stands for every list that carries what it should, reached by calls or not, every call does what the list does
-abbrev pub OnEveryImage : Type 0
-OnEveryImage =
-    (m : Map) → goodMap (player m) ≡ true → (x : OriginList) → Carries (mapRules (player m)) x → (c : Call)
-    → call m c (imageOf m x) ≡ (imageOf m ((originStep (mapRules (player m)) c x) .0), (originStep (mapRules (player m)) c x) .1)
-
 -- and the list carries what it should after every call: at first too, wherever the counter stands from 1 to 4,294,967,296, where it ends
 abbrev pub StaysCarried : Type 0
 StaysCarried =

@@ -4,7 +4,7 @@
 use mathlib.Core.Path.{_≡_}
 use mathlib.Core.Bool.{true}
 use mathlib.Core.List.{List, [], _∷_}
-use Prim.Native.Nat.{ℕ, _+_, _≤_}
+use Prim.Native.Nat.{ℕ, _≤_}
 use lib.Dec.{eqb}
 use Rattle.number.specs.Bits.{bit}
 use Rattle.map.specs.declared.Map.{Map}
@@ -12,7 +12,7 @@ use Rattle.map.specs.FormMap.{player}
 use Rattle.map.specs.Map.{goodMap}
 use Rattle.plain.specs.Call.{answer}
 use Rattle.origins_list.specs.Call.{Call, live}
-use Rattle.origins_list.specs.History.{History, recordings, judged}
+use Rattle.origins_list.specs.History.{History, judged}
 use Rattle.origins_base.specs.Calls.{State, call, firstStateAt}
 use Rattle.demands_origins.specs.Demand1.{numberOf}
 use Rattle.demands_origins.specs.Demand3.{stateReached}
@@ -29,9 +29,3 @@ JudgedByHistory =
     (m : Map) → goodMap (player m) ≡ true → (k : ℕ) → 1 ≤ k → k ≤ 4294967296 → (before : List Call) (c a : ℕ)
     → (call m (live c a) (stateReached m (firstStateAt m k) before)) .1
     ≡ answer (numberOf m (live c a) (stateReached m (firstStateAt m k) before)) (bit (judged (history m (firstStateAt m k) [] before) c a)) 0 0 0
-
--- so 12 follows from the history too: the counter has gone up by one for each accepted recording
-abbrev pub CounterCounts : Type 0
-CounterCounts =
-    (m : Map) → goodMap (player m) ≡ true → (k : ℕ) → 1 ≤ k → k ≤ 4294967296 → (before : List Call)
-    → stateReached m (firstStateAt m k) before .counter ≡ k + recordings (history m (firstStateAt m k) [] before)

@@ -3,4 +3,3 @@ pub mod PlainKinds
 pub mod Alters
 pub mod Demand3
 pub mod Judged
-pub mod Samples

@@ -23,7 +23,7 @@ use Rattle.specification.specs.Call as plain-form
 use Rattle.specification.specs.Votes.{AllBytes}
 use Rattle.specification.proofs.Same.{player-call}
 use Rattle.specification_origins.specs.Cells.{Cells, heapCells, stackCells, cellAt, change, store, withoutCells, startOf, touches}
-use Rattle.specification_origins.specs.Origins.{Lent, does, records, ends, clears, leaves, Does, cellsAfter, counterAfter, call}
+use Rattle.specification_origins.specs.Origins.{Lent, does, records, ends, clears, leaves, Does, cellsAfter, call}
 use Rattle.specification_origins.specs.Votes.{numberOf, isRecording, FirstVote, PointerVote}
 use Rattle.promises.proofs.BytesKept as plain-bytes
 use Rattle.promises.proofs.BytesKept.{byte-at, over-bytes, zero-bytes}

@@ -38,7 +38,6 @@ use Rattle.specification_origins.specs.Votes as origins-votes
 use Rattle.specification_origins.specs.Votes.{first, firstList, lentRun, Carries}
 use Rattle.specification_origins.proofs.OriginsListSame.{step-same, image-same}
 use Rattle.specification_programs.specs.Records.{Asks, newMap, call, Kind, fieldIn, plainKinds, originsKinds, firstKind}
-use Rattle.specification_programs.specs.Lines.{line}
 use Rattle.specification_programs.specs.Programs as programs
 use Rattle.specification_programs.specs.Programs.{Form, State, programHeap, programStack, mapNumber, noMap, served, printed, plainForm, originsForm}
 use Rattle.specification_programs.specs.Votes.{runOf, ProgramVote}
@@ -71,8 +70,8 @@ pub record Mirrors {C X Y : Type 0} (callX : Map → C → X → X × Answer) (c
   pub clears-hold : (m n : Map) (y : Y) → Holds m y → Holds n (clearedY n y)
 
 module _ {C X Y : Type 0} (kinds : List (Kind C)) (callX : Map → C → X → X × Answer) (callY : Map → C → Y → Y × Answer) (clearedX : Map → X → X)
-  (clearedY : Map → Y → Y) (image : Map → Y → X) (Holds : Map → Y → Type 0) (firstX : X) (firstY : Y)
-  (M : Mirrors callX callY clearedX clearedY image Holds) where
+    (clearedY : Map → Y → Y) (image : Map → Y → X) (Holds : Map → Y → Type 0) (firstX : X) (firstY : Y)
+    (M : Mirrors callX callY clearedX clearedY image Holds) where
   abbrev F : Form
   F = record { Calls = C; Lent = X; kinds = kinds; callOf = callX; first = firstX; cleared = clearedX }
 

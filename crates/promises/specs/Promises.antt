@@ -17,17 +17,11 @@ use Rattle.specification_samples.specs.RemovalSamples.{RemovalSamplesHold}
 use Rattle.specification_samples.specs.MapSamples.{MapSamplesHold}
 use Rattle.specification_samples.specs.DamageSamples.{DamageSamplesHold}
 use Rattle.specification_samples.specs.DeskSamples.{DeskExample, DeskSamplesHold, DeskMapSamplesHold}
-use Rattle.demands_origins.specs.Judged.{CounterCounts}
-use Rattle.demands_origins.specs.Samples as origins-samples
-use Rattle.calls_format.specs.Running.{SameRun, NeverDamaged}
-use Rattle.calls_format.specs.NewMapSamples.{NewMapSamplesHold}
-use Rattle.calls_format.specs.Program.{plainProgram}
-use Rattle.calls_file.specs.File.{WholeFile}
-use Rattle.demands_calls.specs.Programs.{KindsTold, KindsDecode, OwnKinds, OthersAsPlain, ServesCalls, ServesMaps}
-use Rattle.demands_calls.specs.Files.{FilesHold}
-use Rattle.calls_origins_format.specs.Running as origins-program
-use Rattle.calls_origins_format.specs.Samples as origins-taken
-use Rattle.calls_origins_format.specs.Program.{originsProgram}
+use Rattle.specification_samples.specs.OriginsSamples as origins-samples
+use Rattle.specification_samples.specs.FileSamples.{NewMapSamplesHold, RecordSamplesHold, FilesHold}
+use Rattle.specification_programs.specs.Votes.{ProgramVote}
+use Rattle.specification_programs.specs.Same.{RunsOutput}
+use Rattle.specification_programs.specs.Samples as program-samples
 use Rattle.promises.specs.Demands.{Demands}
 
 pub record Promises : Type 0 where
@@ -55,8 +49,7 @@ pub record Promises : Type 0 where
   pub origins-first : (m : Map) → origins.FirstVote m
   pub origins-pointers : (m : Map) → origins.PointerVote m
   pub origins-third : (m : Map) → origins.ThirdVote m
-  -- the counter goes up by one for each accepted recording; samples: the first counter, the bytes of a number, numbers at their edges, runs
-  pub counter-counts : CounterCounts
+  -- samples: the first counter, the bytes of a number, numbers at their edges, runs
   pub origins-samples-hold : origins-samples.SamplesHold
   -- ---- samples (specification_samples, in the file that the name says)
 
@@ -80,40 +73,17 @@ pub record Promises : Type 0 where
   pub desk-samples-hold : DeskSamplesHold
   -- S-8: each rule of a desk's map broken alone and at its edge
   pub desk-map-samples-hold : DeskMapSamplesHold
-  -- ---- the calls program (calls_format, Running.antt and NewMapSamples.antt; calls_file, File.antt)
+  -- ---- the calls programs (specification_programs, Votes.antt and Same.antt)
 
-  -- for every list of requests, maps among them: the answers, the map and every shadow byte after each are those of the plain list
-  pub same-run : SameRun
-  -- and none of the answers is 8
-  pub never-damaged : NeverDamaged
-  -- whatever the reads bring, and wherever they end: all that goes to the output is what the file prints
-  pub whole-file : WholeFile plainProgram
-  -- samples: which maps it takes, at the edges of its sizes
+  -- for every list of records, maps among them, answers and everything that is kept are the plain list's, and none is 8; so every file prints what it
+  -- prints on the plain list
+  pub programs : ProgramVote
+  -- whatever the reads bring, and wherever they end: from the first state on, all that is given to be written, and what waits at the end, is the output for
+  -- the file
+  pub runs-output : RunsOutput
+  -- samples (specification_programs, Samples.antt; specification_samples, FileSamples.antt): files cut at each byte, what follows an undecodable record,
+  -- numbers of one to ten digits; maps at the edges of the sizes, records, a line of every kind
+  pub program-samples-hold : program-samples.SamplesHold
   pub new-map-samples-hold : NewMapSamplesHold
-  -- ---- S-4: the calls program of the form with origins (calls_origins_format, Running.antt and Samples.antt; calls_file, File.antt)
-
-  -- for every list of requests, maps among them: the answers, and after each the map, every byte of shadows and cells, and the counter are those of
-  -- the plain list of the form; and none of the answers is 8
-  pub origins-same-run : origins-program.SameRun
-  pub origins-never-damaged : origins-program.NeverDamaged
-  -- whatever the reads bring, and wherever they end: all that goes to the output is what the file prints
-  pub origins-whole-file : WholeFile originsProgram
-  -- it takes the plain program's records as that one does
-  pub takes-plain-kinds : origins-taken.TakesPlainKinds
-  -- samples: records of kinds 11 to 13, and that an accepted map leaves the counter
-  pub origins-record-samples-hold : origins-taken.RecordSamplesHold
-  pub origins-new-map-samples-hold : origins-taken.NewMapSamplesHold
-  -- ---- both calls programs (demands_calls, Programs.antt and Files.antt)
-
-  -- a line has the kind of its record, whose length is the one that it says
-  pub kinds-told : KindsTold
-  -- what each plain kind decodes to, by its fields, S-5's 14 and 15 and S-7's 16 among them, and of which length
-  pub kinds-decode : KindsDecode
-  -- only in the form with origins do kinds 11 to 13 decode, 12 bytes each, and every other record as in the plain program
-  pub own-kinds : OwnKinds
-  pub others-as-plain : OthersAsPlain
-  -- a call is served as the library's; an accepted map clears and leaves the counter, a refused one keeps all
-  pub serves-calls : ServesCalls
-  pub serves-maps : ServesMaps
-  -- samples: what files print, every kind's line among them
+  pub record-samples-hold : RecordSamplesHold
   pub files-hold : FilesHold

@@ -8,7 +8,7 @@ use Prim.Native.Nat.{ℕ, zero, suc, _≤_}
 use native.Mathlib.Omega.{arith}
 use lib.ListN.{length, drop}
 use lib.Dec.{leb, eqb}
-use borrow.Author.Tests.{ne-eqb, eqb-true, eqb-false, leb-true}
+use borrow.Author.Tests.{ne-eqb, eqb-true, eqb-false}
 use Rattle.number.specs.Parts.{Each}
 use Rattle.number.proofs.TestLaws.{Test, is-true, is-false, test, and-true}
 use Rattle.types.specs.Call.{Answer}
@@ -18,12 +18,13 @@ use Rattle.calls_format.specs.Lines.{answerFields}
 use Rattle.calls_format.specs.Program.{Program, Whole, undecodable}
 use Rattle.calls_format.proofs.RecordLaws.{word-front}
 use Rattle.calls_file.specs.File as file
-use Rattle.calls_file.specs.File.{printedFirst, printedFile}
+use Rattle.calls_file.specs.File.{printedFirst}
 use Rattle.calls_file.proofs.AlikeLaws.{Alike, Same}
 use Rattle.specification_programs.specs.Records.{lengthIn, kindIn, fieldIn, Asks, Kind, find, whole, firstKind}
 use Rattle.specification_programs.specs.Lines.{lastDigits, lineOf, nine}
-use Rattle.specification_programs.specs.Programs.{Form, State, noMap, served, first, printed, output}
+use Rattle.specification_programs.specs.Programs.{Form, State, noMap, served, first, printed}
 use Rattle.specification_programs.specs.Program.{request, programOf}
+use Rattle.specification_programs.specs.Same.{OutputOf}
 use Rattle.specification_programs.proofs.LineSame.{line-same}
 
 -- ---- the kind of a number
@@ -64,8 +65,8 @@ module _ (F : Form) where
   printed-of (suc n) s [] = refl
   printed-of (suc n) s (b ∷ l) = rw (ne-eqb (length (b ∷ l)) 0 (omega arith)) (first-of n (printed-of n) s (b ∷ l) (firstKind (F .kinds) (b ∷ l)))
 
-  pub output-of : (l : List ℕ) → printedFile (programOf F) l ≡ output F l
-  output-of l = printed-of (length l) (noMap, F .first) l
+pub output-of : OutputOf
+output-of F l = printed-of F (length l) (noMap, F .first) l
 
 -- ---- a program: what it is asked for, and its state, as the form has them
 

@@ -1,24 +1,23 @@
 -- The calls program with origins has the kinds, the calls and the answers of the form with origins. Assumes nothing.
-use mathlib.Core.Path.{_≡_, refl, sym, ap, _∙_}
+use mathlib.Core.Path.{_≡_, refl, ap, _∙_}
 use mathlib.Core.Bool.{Bool, true, false, cond}
-use mathlib.Core.List.{List, [], _∷_, map}
+use mathlib.Core.List.{List}
 use mathlib.Core.Logic.{_≢_}
-use mathlib.Core.Option.{Option, none, some}
-use Prim.Native.Nat.{ℕ, _≤_}
+use mathlib.Core.Option.{none, some}
+use Prim.Native.Nat.{ℕ}
 use native.Mathlib.Omega.{arith}
 use lib.Dec.{leb}
 use borrow.Author.Tests.{leb-true}
 use Rattle.number.specs.Parts.{Each}
-use Rattle.number.proofs.TestLaws.{Test, is-true, is-false, test, and-true, false-of}
+use Rattle.number.proofs.TestLaws.{and-true, false-of}
 use Rattle.types.specs.Call as plains
-use Rattle.types.specs.Origins.{Call, plain, point, copy, live}
-use Rattle.calls_format.specs.Records as records
+use Rattle.types.specs.Origins.{Call, plain}
 use Rattle.calls_format.specs.Records.{kindField, field}
 use Rattle.calls_format.specs.Lines.{answerFields}
 use Rattle.calls_format.specs.Running.{serveBy}
 use Rattle.calls_format.proofs.LineLaws.{line-as}
 use Rattle.calls_origins_format.specs.Records as own
-use Rattle.calls_origins_format.specs.Records.{isOwn, ownCall, asked, decodePlain}
+use Rattle.calls_origins_format.specs.Records.{isOwn, ownCall, decodePlain}
 use Rattle.calls_origins_format.specs.Running as running
 use Rattle.calls_origins_format.specs.Program.{originsProgram}
 use Rattle.calls_origins_format.proofs.RecordLaws.{decode-plain, decoded-heads}
@@ -27,7 +26,7 @@ use Rattle.specification_origins.proofs.OriginsSame.{call-same}
 use Rattle.specification_programs.specs.Records.{Asks, newMap, call, Kind, plainKinds, originsKinds}
 use Rattle.specification_programs.specs.Programs.{served, originsForm}
 use Rattle.specification_programs.proofs.AlikeSame.{isThere, Known, Has}
-use Rattle.specification_programs.proofs.PlainSame.{toAsked, Numbered, plain-numbered, plain-decodes, plain-others, each-map}
+use Rattle.specification_programs.proofs.PlainSame.{toAsked, Numbered, _and_, plain-numbered, plain-decodes, plain-others, each-map}
 
 abbrev itself : running.State → running.State
 itself s = s
@@ -62,16 +61,11 @@ known k n =
 
 each-known : Each IsKnown originsKinds
 unfolding own.decode ownCall answerFields
-each-known = (
-  record { decodes = λ l e. rw e; told = refl },
-  (
-    record { decodes = λ l e. rw e; told = refl },
-    (
-      record { decodes = λ l e. rw e; told = refl },
-      each-map Numbered IsKnown withOrigins known (plainKinds (λ c. c)) plain-numbered,
-    ),
-  ),
-)
+each-known =
+    record { decodes = λ l e. rw e; told = refl }
+    and record { decodes = λ l e. rw e; told = refl }
+    and record { decodes = λ l e. rw e; told = refl }
+    and each-map Numbered IsKnown withOrigins known (plainKinds (λ c. c)) plain-numbered
 
 others : (l : List ℕ) → Each (λ (k : Kind Call). kindField l ≢ k .number) originsKinds → own.decode l ≡ none
 others l (a, (b, (c, e))) =

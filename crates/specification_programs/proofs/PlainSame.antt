@@ -1,10 +1,10 @@
 -- The plain calls program has the kinds, the calls and the answers of the plain form. Assumes nothing.
-use mathlib.Core.Path.{_≡_, refl, sym, _∙_}
-use mathlib.Core.Bool.{true, false, cond, _&&_}
+use mathlib.Core.Path.{_≡_, refl}
+use mathlib.Core.Bool.{true, false, cond}
 use mathlib.Core.List.{List, [], _∷_, map}
 use mathlib.Core.Logic.{_≢_}
 use mathlib.Core.Option.{Option, none, some}
-use Prim.Native.Nat.{ℕ, _≤_}
+use Prim.Native.Nat.{ℕ}
 use native.Mathlib.Omega.{arith}
 use lib.ListN.{length}
 use lib.Dec.{leb, eqb}
@@ -13,7 +13,7 @@ use Rattle.number.specs.Parts.{Each}
 use Rattle.number.proofs.TestLaws.{Test, is-true, is-false, test, and-false-r}
 use Rattle.types.specs.Call.{Call}
 use Rattle.calls_format.specs.Records as records
-use Rattle.calls_format.specs.Records.{Asked, kindField, lengthField, field, fieldsOf, requestOf, recordLength, decodeAs}
+use Rattle.calls_format.specs.Records.{Asked, kindField, lengthField, field, fieldsOf, requestOf, recordLength}
 use Rattle.calls_format.specs.Decoded.{lengthFor, lengthOf}
 use Rattle.calls_format.specs.Lines.{answerFields}
 use Rattle.calls_format.specs.Running as running
@@ -50,8 +50,9 @@ Numbered k =
     (lengthOf (k .number) ≡ k .length) × (answerFields (k .number) ≡ k .answers) × (leb 4 (k .length) ≡ true)
     × (isOwn (k .number) ≡ false) × ((l : List ℕ) → requestOf (k .number) l ≡ toAsked (k .asks (field l)))
 
+-- pairs of pairs, as `Each` is
 infixr 5 _and_
-_and_ : {A B : Type 0} → A → B → A × B
+pub _and_ : {A B : Type 0} → A → B → A × B
 a and b = (a, b)
 
 pub plain-numbered : Each Numbered (plainKinds (λ c. c))

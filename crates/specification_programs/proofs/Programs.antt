@@ -9,10 +9,11 @@ use Rattle.calls_origins_format.specs.Running as origins-running
 use Rattle.calls_origins_format.proofs.RecordLaws as origins-laws
 use Rattle.calls_file.specs.File.{came}
 use Rattle.calls_file.proofs.AlikeLaws.{Alike, file-alike}
+use Rattle.calls_file.proofs.FileLaws.{whole-file}
 use Rattle.calls_file.proofs.RanLaws.{ran-prints}
 use Rattle.specification_programs.specs.Programs.{plainForm, originsForm}
 use Rattle.specification_programs.specs.Program.{programOf}
-use Rattle.specification_programs.specs.Same.{OutputSame, RunsOutput}
+use Rattle.specification_programs.specs.Same.{OutputSame, WholeFiles, RunsOutput}
 use Rattle.specification_programs.proofs.AlikeSame.{output-of, alike, whole-of}
 use Rattle.specification_programs.proofs.PlainSame.{back, back-same, plain-has}
 use Rattle.specification_programs.proofs.OriginsSame.{origins-has}
@@ -31,6 +32,9 @@ origins-whole-of = whole-of origins-has origins-laws.origins-whole back back-sam
 
 pub output-same : OutputSame
 output-same l = (sym (file-alike plain-alike l ∙ output-of plainForm l), sym (file-alike origins-alike l ∙ output-of originsForm l))
+
+pub whole-files : WholeFiles
+whole-files = (whole-file plain-whole-of, whole-file origins-whole-of)
 
 pub runs-output : RunsOutput
 runs-output = (

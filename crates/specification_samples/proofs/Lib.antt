@@ -1,3 +1,5 @@
 pub mod Samples
 pub mod MapSamples
 pub mod DeskExample
+pub mod FileSamples
+pub mod OriginsSamples

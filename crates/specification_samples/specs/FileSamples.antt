@@ -14,7 +14,7 @@ use Rattle.specification_programs.specs.Records.{Asks, newMap, call, Kind, fiel
 use Rattle.specification_programs.specs.Programs.{State, noMap, served, output, plainForm, originsForm}
 use Rattle.specification_programs.specs.Text.{text}
 use Rattle.specification_programs.specs.Samples.{sized, entry, Both}
-use Rattle.specification_samples.specs.MapSamples.{mapOf}
+use Rattle.specification_samples.specs.Samples.{mapOf}
 
 -- ---- a new map: 0, 10 and 1 at the edges of the programs' sizes
 

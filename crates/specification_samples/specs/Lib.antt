@@ -8,3 +8,5 @@ pub mod MapSamples
 pub mod ByteSamples
 pub mod DamageSamples
 pub mod DeskSamples
+pub mod FileSamples
+pub mod OriginsSamples

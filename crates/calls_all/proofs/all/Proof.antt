@@ -1,16 +1,16 @@
 -- `calls_all::all` meets its contract. Assumes nothing.
-use mathlib.Core.Path.{_≡_, refl, ap, _∙_}
-use mathlib.Core.Bool.{Bool, true, false, not, true≢false, false≢true}
+use mathlib.Core.Path.{_≡_, ap, _∙_}
 use mathlib.Core.Logic.{inl, inr, ⊎-elim}
 use Prim.Native.Nat.{_-_, _≤_}
 use native.Mathlib.Omega.{arith}
 use lib.ListN.{length}
 use borrow.Author.Needs.{needs}
+use borrow.Author.Tests.{not-true, not-false}
 use Rattle.map.specs.declared.Map.{Map}
 use Rattle.calls_format.specs.Kept.{kept}
 use Rattle.calls_file.specs.Turn.{Goes}
 use Rattle.calls_file.specs.Ran.{Ran}
-use Rattle.calls_file.proofs.RanLaws.{ran-none, ran-more}
+use Rattle.calls_file.proofs.RanLaws.{begun-goes, ran-none, ran-more}
 use Rattle.calls_turn.specs.Point.{pointOf}
 use Rattle.calls_all.proofs.all.Statement.{statement}
 use Rattle.calls_all.proofs.all.Tie as tie
@@ -22,22 +22,14 @@ Inv-loop heap₀ primary₀ secondary₀ bytes₀ lines₀ run₀ counter₀ hea
 abbrev μ-loop : tie.MeasureT-loop
 μ-loop heap₀ primary₀ secondary₀ bytes₀ lines₀ run₀ counter₀ heap primary secondary bytes lines run counter = 18446744073709551615 - counter
 
--- what a test of "not on" says
-off : (b : Bool) → not b ≡ true → b ≡ false
-off true e = absurd (false≢true e)
-off false e = refl
-
-still : (b : Bool) → not b ≡ false → b ≡ true
-still true e = refl
-still false e = absurd (true≢false e)
-
 begun-requires : tie.Need-begun-requires Inv-loop μ-loop
 begun-requires c κs = search needs
 
 loop-holds : tie.Need-loop-holds Inv-loop μ-loop
 loop-holds c =
     let b = c .begun .ensures in
-    (omega arith, ((omega (arith, b .1, b .2), omega (arith, b .2)), omega (arith, b .4)), ran-none _ b (ap (λ (m : Map). kept m (c .before .args .heap .now) (c .before .args .primary .now) (c .before .args .secondary .now)) (b .0)), c .before .pre)
+    let a = c .before .args in
+    (omega arith, begun-goes _ b, ran-none _ b (ap (λ (m : Map). kept m (a .heap .now) (a .primary .now) (a .secondary .now)) (b .0)), c .before .pre)
 
 turn-requires : tie.Need-turn-requires Inv-loop μ-loop
 turn-requires c κs = search needs
@@ -53,7 +45,7 @@ loop-again c =
     let l = c .before .before .before .before .before .before .before .before .before .loop in
     let i = c .before .before .before .before .before .before .if1 .left in
     let k = c .turn .ensures .refilled .kept ∙ l .inv .3 in
-    (search needs, c .turn .ensures .goes, ran-more _ _ _ (l .inv .2) (still (l .run .on) i) (c .turn .ensures) k, k)
+    (search needs, c .turn .ensures .goes, ran-more _ _ _ (l .inv .2) (not-false (l .run .on) i) (c .turn .ensures) k, k)
 
 flush-requires : tie.Need-flush-requires Inv-loop μ-loop
 flush-requires c κs = search needs
@@ -64,7 +56,7 @@ returns c =
     record {
       turns = l .counter;
       ran = l .inv .2;
-      ended = ⊎-elim (λ w. inr (let u = l .inv .0 in let v = w .left in omega arith)) (λ w. inl (off (l .run .on) (w .2 .taken))) (c .before .before .loop-test .came);
+      ended = ⊎-elim (λ w. inr (let u = l .inv .0 in let v = w .left in omega arith)) (λ w. inl (not-true (l .run .on) (w .2 .taken))) (c .before .before .loop-test .came);
     }
 
 pub all-spec : {M : Type 1} → statement M

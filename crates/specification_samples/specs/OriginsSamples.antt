@@ -1,37 +1,38 @@
 -- Tables of samples for the form with origins: runs from given bytes, cells and counter under the sample map (heap 4096 to 4159, stack 8192 to
--- 8223), the answer of each call, and cells and counter afterwards. They decide what both sides of Demand3.antt share, the first counter and the
--- order of the bytes of a number, and the decisions on open points. Proved in proofs/Samples.antt. Assumes nothing.
+-- 8223), the answer of each call, and cells and counter afterwards. They decide the first counter, the order of the
+-- bytes of a number, and the decisions on open points. Assumes nothing.
 use mathlib.Core.Path.{_≡_}
 use mathlib.Core.Bool.{Bool, true, false, _&&_}
 use mathlib.Core.List.{List, [], _∷_}
 use Prim.Native.Nat.{ℕ}
 use lib.ListN.{replicate}
 use lib.Dec.{eqb}
-use Rattle.plain.specs.Call.{record-block, record-written, record-literal, free, remove, written, ask, valid-write, valid-read, audit, clear, Answer, answer, refusal, done, yesNo}
-use Rattle.demands.specs.GivenShadows.{sampleMap, sameAnswer, sameBytes, Part, put}
-use Rattle.map.specs.FormMap.{areas}
-use Rattle.origins_list.specs.Call.{Call, plain, point, copy, live}
-use Rattle.origins_base.specs.Calls.{State, call, firstState}
+use Rattle.types.specs.Call.{record-block, record-written, record-literal, free, remove, written, ask, valid-write, valid-read, audit, clear, Answer, answer, refusal, done, yesNo}
+use Rattle.types.specs.Origins.{Call, plain, point, copy, live}
+use Rattle.specification_origins.specs.Origins.{Lent, call}
+use Rattle.specification_origins.specs.Votes as votes
+use Rattle.specification_samples.specs.Samples.{Part, sampleMap, sameAnswer, hasBytes}
+use Rattle.specification_samples.specs.GivenShadows.{put}
 
 -- what a run begins with, its calls and their answers, and what it leaves: the bytes of each shadow of cells from a position on, and the counter
 pub record Sample : Type 0 where
-  pub first : State
+  pub first : Lent
   pub calls : List Call
   pub answers : List Answer
   pub heapCells : Part
   pub stackCells : Part
   pub counter : ℕ
 
-abbrev pub leaves : Sample → State → Bool
+abbrev pub leaves : Sample → Lent → Bool
 leaves x y =
-    sameBytes (y .cells .0) (x .heapCells .0) (x .heapCells .1) && sameBytes (y .cells .1) (x .stackCells .0) (x .stackCells .1)
+    hasBytes (y .cells .0) (x .heapCells .0) (x .heapCells .1) && hasBytes (y .cells .1) (x .stackCells .0) (x .stackCells .1)
     && eqb (y .counter) (x .counter)
 
-unfoldable pub runHolds : Sample → State → List Call → List Answer → Bool
+unfoldable pub runHolds : Sample → Lent → List Call → List Answer → Bool
 runHolds x y [] [] = leaves x y
 runHolds x y [] (r ∷ rs) = false
 runHolds x y (c ∷ cs) [] = false
-runHolds x y (c ∷ cs) (r ∷ rs) = let after = call (areas sampleMap) c y in sameAnswer (after .1) r && runHolds x (after .0) cs rs
+runHolds x y (c ∷ cs) (r ∷ rs) = let after = call sampleMap c y in sameAnswer (after .1) r && runHolds x (after .0) cs rs
 
 unfoldable pub allHold : List Sample → Bool
 allHold [] = true
@@ -39,11 +40,11 @@ allHold (x ∷ xs) = runHolds x (x .first) (x .calls) (x .answers) && allHold xs
 
 -- ---- where runs begin
 
-abbrev begun : State
-begun = firstState (areas sampleMap)
+abbrev begun : Lent
+begun = votes.first sampleMap 1
 
 -- primary bytes, stack cells and counter; all else is zero
-abbrev given : (primary stackCells : List Part) → (counter : ℕ) → State
+abbrev given : (primary stackCells : List Part) → (counter : ℕ) → Lent
 given p c k =
     record {
       shadows = (replicate 64 0, (put p (replicate 32 0), replicate 32 0));
@@ -52,11 +53,11 @@ given p c k =
     }
 
 -- cells of these lengths, all zero
-abbrev long : (heapCells stackCells : ℕ) → State
+abbrev long : (heapCells stackCells : ℕ) → Lent
 long h s = record { shadows = (replicate 64 0, (replicate 32 0, replicate 32 0)); cells = (replicate h 0, replicate s 0); counter = 1 }
 
 -- every byte of the cells is 255
-abbrev full : (heap primary : List Part) → State
+abbrev full : (heap primary : List Part) → Lent
 full h p =
     record { shadows = (put h (replicate 64 0), (put p (replicate 32 0), replicate 32 0)); cells = (replicate 128 255, replicate 64 255); counter = 1 }
 
@@ -69,18 +70,18 @@ offCell = (1, 116 ∷ 120 ∷ 124 ∷ 128 ∷ 132 ∷ 136 ∷ 140 ∷ 144 ∷ []
 
 -- ---- runs, of which the answers and the counter are looked at
 
-abbrev runs : State → List Call → List Answer → (counter : ℕ) → Sample
+abbrev runs : Lent → List Call → List Answer → (counter : ℕ) → Sample
 runs s cs rs k = record { first = s; calls = cs; answers = rs; heapCells = (0, []); stackCells = (0, []); counter = k }
 
 -- one call
-abbrev one : State → Call → Answer → (counter : ℕ) → Sample
+abbrev one : Lent → Call → Answer → (counter : ℕ) → Sample
 one s c r k = runs s (c ∷ []) (r ∷ []) k
 
 -- one call, and the bytes of the stack's cells or of the heap's afterwards
-abbrev stack : State → Call → Answer → Part → (counter : ℕ) → Sample
+abbrev stack : Lent → Call → Answer → Part → (counter : ℕ) → Sample
 stack s c r q k = record { first = s; calls = c ∷ []; answers = r ∷ []; heapCells = (0, []); stackCells = q; counter = k }
 
-abbrev heap : State → Call → Answer → Part → (counter : ℕ) → Sample
+abbrev heap : Lent → Call → Answer → Part → (counter : ℕ) → Sample
 heap s c r q k = record { first = s; calls = c ∷ []; answers = r ∷ []; heapCells = q; stackCells = (0, []); counter = k }
 
 -- ---- the first counter, the bytes of a number, and where a cell lies
