@@ -39,5 +39,3 @@ module _ {C X : Type 0} (cleared : Map → X → X) (callOn : Map → C → X �
       → ((m, x′), a) ≡ serveBy cleared callOn (newMap m) s
   unfolding serveBy
   served-accepted m a s x′ z e = rw z (ap (underMap m) e)
-
--- ---- every list of requests
