@@ -52,12 +52,12 @@ came p (q ∷ qs) t = got p q (t .turned) ++ came q qs (t .later)
 abbrev pub waits : {P : Program} → Point P → List ℕ
 waits p = take (p .run .pending .filled) (p .lines)
 
--- what waited before a turn and waits no more, since a text had no room behind it: it was given to be written
+-- what waited before a turn and waits no more, since a text had no room behind it: it left the buffer; that it is written then is trusted
 abbrev pub gone : {P : Program} (p q : Point P) → Turned p q → List ℕ
 gone p q t =
     cond (eqb (t .window .at) (t .window .end)) [] (cond (leb (p .run .pending .filled + 64) (length (p .lines))) [] (waits p))
 
--- all that goes to the output: what is given to be written, turn by turn, and what waits after the last
+-- all that is to go to the output: what left the buffer, turn by turn, and what waits after the last
 abbrev pub put : {P : Program} (p : Point P) (ps : List (Point P)) → Turns p ps → List ℕ
 put p [] t = waits p
 put p (q ∷ qs) t = gone p q (t .turned) ++ put q qs (t .later)
@@ -76,7 +76,7 @@ Stops p rest = (p .run .on ≡ false) × (p .run .pending .open ≡ true) × (p 
 
 -- ---- what is proved (proofs/FileLaws.antt)
 
--- whatever the reads bring, and wherever they end: all that goes to the output is what the file prints
+-- whatever bytes come into the window: all that is to go to the output is what these bytes, and any that were not read, print
 abbrev pub WholeFile : Program → Type 0
 WholeFile P =
     (p q : Point P) (qs : List (Point P)) (t : Turns p (q ∷ qs)) (rest : List ℕ) → Begins p → Stops (final q qs) rest

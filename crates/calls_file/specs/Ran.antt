@@ -28,8 +28,8 @@ pub record RanAll {P : Program} (q : Point P) (most : ℕ) : Type 0 where
 
 -- ---- what is proved (proofs/RanLaws.antt)
 
--- where the run is off with its output open: all that was given to be written, and what waits, is what the file prints, the bytes that the reads
--- brought and those that no read asked for
+-- where the run is off with its output open: all that left the buffer, and what waits, is what the bytes print that came into the window, and any that
+-- were not read
 abbrev pub RanPrints : Program → Type 0
 RanPrints P =
     (q : Point P) (turns : ℕ) (R : Ran q turns) (rest : List ℕ) → Stops q rest

@@ -128,6 +128,14 @@ module _ (m : Map) where
       go (is-true e) = taken-bytes c x (eqb-true (numberOf m c x) 0 e) b
       go (is-false e) = rw (first .refused-alters-nothing c x (eqb-false (numberOf m c x) 0 e)) b
 
+  -- a part of the state that an accepted call leaves
+  left : FirstVote m → {A : Type 0} (part : Lent → A) (c : Call) (x : Lent) → (numberOf m c x ≡ 0 → part (call m c x .0) ≡ part x) → part (call m c x .0) ≡ part x
+  left first part c x h = go (test (eqb (numberOf m c x) 0))
+    where
+      go : Test (eqb (numberOf m c x) 0) → part (call m c x .0) ≡ part x
+      go (is-true e) = h (eqb-true (numberOf m c x) 0 e)
+      go (is-false e) = rw (first .refused-alters-nothing c x (eqb-false (numberOf m c x) 0 e))
+
   pub pointer-vote : FirstVote m → PointerVote m
   unfolding call
   pointer-vote first =
@@ -135,6 +143,10 @@ module _ (m : Map) where
         point-number = λ c a x. refused-by _ x _ _ refl;
         copy-number = λ t f x. refused-by _ x _ _ refl;
         live-number = λ c a x. refused-by _ x _ _ refl;
+        point-leaves = λ c a x. left first (λ (y : Lent). y .shadows) (point c a) x (λ e. rw (taken _ x _ _ e));
+        copy-leaves = λ t f x. left first (λ (y : Lent). y .shadows) (copy t f) x (λ e. rw (taken _ x _ _ e));
+        live-leaves = λ c a x. left first (λ (y : Lent). y) (live c a) x (λ e. rw (taken _ x _ _ e));
+        cells-left = λ c x d. left first (λ (y : Lent). y .cells) (plain c) x (λ e. rw (taken _ x _ _ e, d));
         counter-after = counter-after m first;
         bytes-kept = λ c x s h k. let b = kept first c x (s, (h, k)) in (b .0, b .1 .0, b .1 .1);
       }

@@ -1,6 +1,7 @@
 -- Everything that is promised of the libraries and of the calls programs, over the specification (crates/specification, specification_origins,
 -- specification_programs). `proofs/Promises.antt` proves this one type. That the code does what is said here is the contract of each exported function
--- (crates/monitor_c, desk_c, origins_c), of `step` of each library and of each program's turn, which cite the same definitions. Assumes nothing.
+-- (crates/monitor_c, desk_c, origins_c), of `step` of each library and of each program's turn and whole run, which cite the same definitions. Assumes
+-- nothing.
 use Rattle.map.specs.FormMap.{FormMap}
 use Rattle.types.specs.Map.{Map}
 use Rattle.specification.specs.Heap.{player}
@@ -78,8 +79,8 @@ pub record Promises : Type 0 where
   -- for every list of records, maps among them, answers and everything that is kept are the plain list's, and none is 8; so every file prints what it
   -- prints on the plain list
   pub programs : ProgramVote
-  -- whatever the reads bring, and wherever they end: from the first state on, all that is given to be written, and what waits at the end, is the output for
-  -- the file
+  -- for every chain of turns from the first state that ends with its output open: what left the buffer of lines, and what waits at the end, is the output
+  -- for the bytes that came into the window, and any that were not read
   pub runs-output : RunsOutput
   -- samples (specification_programs, Samples.antt; specification_samples, FileSamples.antt): files cut at each byte, what follows an undecodable record,
   -- numbers of one to ten digits; maps at the edges of the sizes, records, a line of every kind

@@ -22,7 +22,7 @@ use Rattle.specification.specs.Call as plain-form
 use Rattle.specification.specs.Table.{row3, row4, row5, row6, row7, row8, row13, row14, row15, when, never, neither}
 use Rattle.specification.specs.Votes.{SameLengths, AllBytes}
 use Rattle.specification_origins.specs.Cells.{Cells, heapCells, stackCells, rightCells, zeroCells, originAt, referentAt}
-use Rattle.specification_origins.specs.Origins.{Lent, lastOrigin, call}
+use Rattle.specification_origins.specs.Origins.{Lent, lastOrigin, leaves, does, call}
 use Rattle.specification_origins.specs.OriginsList.{onOrigins, imageOf}
 use Rattle.specification_origins.specs.History.{History, judged}
 
@@ -53,7 +53,8 @@ pub record FirstVote (m : Map) : Type 0 where
       → SameLengths (call m c x .0 .shadows) (x .shadows)
       × (length (heapCells (call m c x .0 .cells)) ≡ length (heapCells (x .cells))) × (length (stackCells (call m c x .0 .cells)) ≡ length (stackCells (x .cells)))
 
--- the rows for kinds 11 to 13: 11 and 13 have one pointer cell, 12 has two, and no address
+-- the rows for kinds 11 to 13: 11 and 13 have one pointer cell, 12 has two, and no address. The tests are those of Origins.antt; what is written again is
+-- which call has which row, and the order
 abbrev pub noPointerRow : Map → Lent → (c : ℕ) → Bool
 noPointerRow m x c = not (eqb (c % 4) 0) || not (inOne 4 (reading player m (x .shadows) c))
 
@@ -74,6 +75,12 @@ pub record PointerVote (m : Map) : Type 0 where
   pub copy-number : (to from : ℕ) (x : Lent)
       → numberOf m (copy to from) x ≡ firstOf (pointerRows m (outside m to || outside m from) to from (noPointerRow m x to || noPointerRow m x from) x)
   pub live-number : (c a : ℕ) (x : Lent) → numberOf m (live c a) x ≡ firstOf (pointerRows m (outside m c) c a (noPointerRow m x c) x)
+  -- they leave the block shadows, and live leaves everything; a plain kind that neither begins nor ends blocks, nor clears, leaves the cells. What else the
+  -- calls do to cells, on bytes that are no image, is read off `call`
+  pub point-leaves : (c a : ℕ) (x : Lent) → call m (point c a) x .0 .shadows ≡ x .shadows
+  pub copy-leaves : (to from : ℕ) (x : Lent) → call m (copy to from) x .0 .shadows ≡ x .shadows
+  pub live-leaves : (c a : ℕ) (x : Lent) → call m (live c a) x .0 ≡ x
+  pub cells-left : (c : plains.Call) (x : Lent) → does c ≡ leaves → call m (plain c) x .0 .cells ≡ x .cells
   -- the counter goes up by one with each accepted recording, and never else
   pub counter-after : (c : Call) (x : Lent) → call m c x .0 .counter ≡ x .counter + bit (isRecording c && eqb (numberOf m c x) 0)
   -- bytes stay bytes

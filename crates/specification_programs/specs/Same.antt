@@ -18,12 +18,13 @@ OutputSame = (file : List ℕ) → (output plainForm file ≡ printedFile plainP
 abbrev pub OutputOf : Type 1
 OutputOf = (F : Form) (file : List ℕ) → printedFile (programOf F) file ≡ output F file
 
--- whatever the reads bring, and wherever they end: all that goes to the output is what the file prints (calls_file, File.antt)
+-- whatever bytes come into the window: all that is to go to the output is what these bytes, and any that were not read, print (calls_file, File.antt)
 abbrev pub WholeFiles : Type 0
 WholeFiles = WholeFile (programOf plainForm) × WholeFile (programOf originsForm)
 
--- what the contract of a program's `all` says (`Ran`): turns were made, from the first state to q. Where the run is off there with its output open, all
--- that was given to be written, and what waits, is the output for the file: the bytes that the reads brought, and those that no read asked for
+-- the contract of a program's `all` says that there is a chain of turns from a first state to q (`Ran`). Where the run is off there with its output open,
+-- what left the buffer of lines, and what waits, is the output for the bytes that came into the window, and any that were not read. That these came by
+-- reads, and went by writes, no contract says
 abbrev pub Outputs : Form → Type 0
 Outputs F =
     (q : Point (programOf F)) (turns : ℕ) (R : Ran q turns) (unread : List ℕ) → Stops q unread

@@ -19,7 +19,9 @@ use Rattle.specification_origins.specs.Votes.{firstList}
 use Rattle.specification_programs.specs.Records.{Asks, plainKinds, originsKinds}
 use Rattle.specification_programs.specs.Programs.{Form, State, noMap, served, output, plainForm, originsForm}
 
--- ---- the same programs with the plain list in place of what is lent. Under a map that breaks a rule every call is 1; an accepted map leaves no block
+-- ---- the same programs with the plain list in place of what is lent. Under a map that breaks a rule every call is 1; an accepted map leaves no block.
+-- Records, the number of a map, serving and lines are the same definitions on both sides (Programs.antt): what is compared is calls, shadows, cells and
+-- counter
 
 abbrev pub plainListForm : Form
 plainListForm =
@@ -57,7 +59,7 @@ abbrev pub originsShown : State originsListForm → State originsForm
 originsShown s = (s .0, imageOf (s .0) (s .1))
 
 pub record ProgramVote : Type 0 where
-  -- for every list of records, maps among them: answers, map and everything lent after each are the list's; 8 is never given
+  -- for every list of what records ask, maps among them: answers and everything lent after each are the list's; 8 is never given
   pub same-run : (rs : List (Asks Call)) → runOf plainForm (λ s. s) (noMap, plainForm .first) rs ≡ runOf plainListForm plainShown (noMap, []) rs
   pub never-damaged : (rs : List (Asks Call)) → Each (λ (r : Answer × State plainForm). number (r .0) ≢ 8) (runOf plainForm (λ s. s) (noMap, plainForm .first) rs)
   pub origins-same-run : (rs : List (Asks origins.Call))
