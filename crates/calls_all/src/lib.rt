@@ -1,4 +1,6 @@
 // Every turn of the plain calls program, from its first state on.
+#![tactic(auto)]
+
 ghost use Rattle.std.specs.Prelude.{◌≡◌, length};
 ghost use Rattle.calls_file.specs.Ran.{RanAll};
 ghost use Rattle.calls_turn.specs.Point.{point_of};

@@ -1,22 +1,24 @@
 // What the calls program reads, serves and writes: definitions in specs/, laws in proofs/, no code but these types.
+#![tactic(auto)]
+
 use map::Map;
 use monitor_base::{Answer, Call};
 
 // What a record asks for.
-#[derive(Drop)]
+#[derive(Clone, Copy)]
 pub enum Request {
     NewMap(Map),
     Call(Call),
 }
 
-#[derive(Drop)]
+#[derive(Clone, Copy)]
 pub enum Decoded {
     Call(Request),
     Undecodable,
 }
 
 // The map that holds after a request, and its answer.
-#[derive(Drop)]
+#[derive(Clone, Copy)]
 pub struct Served {
     pub map: Map,
     pub answer: Answer,

@@ -1,4 +1,6 @@
 // Standard input through a buffer: wherever the reads end, a record is whole in it.
+#![tactic(auto)]
+
 ghost use Rattle.std.specs.Prelude.{◌≡◌, true, ◌-◌, ◌≤◌, length, drop};
 ghost use Rattle.std.proofs.Math.Seq.{paste};
 ghost use Rattle.calls_window.specs.Window.{Held, Refilled};

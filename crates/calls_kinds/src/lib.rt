@@ -1,4 +1,6 @@
 // The kind and the length of each record of a calls file.
+#![tactic(auto)]
+
 ghost use Rattle.std.specs.Prelude.{◌≡◌};
 ghost use Rattle.monitor_base.specs.Answers.{call_of, query_of, update_of};
 ghost use Rattle.calls_format.specs.Decoded as kinds;

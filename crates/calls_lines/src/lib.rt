@@ -1,4 +1,6 @@
 // The lines that the calls program writes, as decimal text.
+#![tactic(auto)]
+
 ghost use Rattle.std.specs.Prelude.{◌≡◌, [], ◌∷◌, ◌++◌, ◌+◌, ◌≤◌, length, drop};
 ghost use Rattle.monitor_base.specs.Answers.{answer_of};
 ghost use Rattle.calls_format.specs.Lines as lines;

@@ -1,4 +1,6 @@
 // The number that a new map is answered with.
+#![tactic(auto)]
+
 ghost use Rattle.std.specs.Prelude.{◌≡◌};
 ghost use Rattle.calls_format.specs.Running.{map_number};
 

@@ -1,4 +1,6 @@
 // The calls program of the form with origins: records from standard input, a line for each to standard output.
+#![tactic(auto)]
+
 fn main() {
     let mut heap = [0u8; 32768];
     let mut primary = [0u8; 16384];

@@ -1,4 +1,6 @@
 // Every turn of the calls program with origins, from its first state on.
+#![tactic(auto)]
+
 ghost use Rattle.std.specs.Prelude.{◌≡◌, length};
 ghost use Rattle.calls_file.specs.Ran.{RanAll};
 ghost use Rattle.calls_origins_turn.specs.Point.{point_of};

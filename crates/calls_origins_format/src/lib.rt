@@ -1,23 +1,25 @@
 // What the calls program of the form with origins reads, serves and writes: definitions in specs/, laws in proofs/, no code but these types.
+#![tactic(auto)]
+
 use map::Map;
 use monitor_base::Answer;
 use origins_base::Pointer;
 
 // What a record asks for: what it may in the plain program, or a call of pointers.
-#[derive(Drop)]
+#[derive(Clone, Copy)]
 pub enum Request {
     Plain(calls_format::Request),
     Pointer(Pointer),
 }
 
-#[derive(Drop)]
+#[derive(Clone, Copy)]
 pub enum Decoded {
     Call(Request),
     Undecodable,
 }
 
 // The map and the counter that hold after a request, and its answer.
-#[derive(Drop)]
+#[derive(Clone, Copy)]
 pub struct Served {
     pub map: Map,
     pub answer: Answer,

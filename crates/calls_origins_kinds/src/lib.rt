@@ -1,4 +1,6 @@
 // The kind and the length of each record of the calls program with origins.
+#![tactic(auto)]
+
 ghost use Rattle.std.specs.Prelude.{◌≡◌};
 ghost use Rattle.origins_base.specs.Answers.{pointer_of};
 ghost use Rattle.calls_origins_format.specs.Records.{form_kind, kind_of, length_of};

@@ -1,4 +1,6 @@
 // What a request asks of the library with origins: a call under a map, on so many bytes of each buffer, or a refusal.
+#![tactic(auto)]
+
 ghost use Rattle.std.specs.Prelude.{◌≡◌, ◌*◌, min};
 ghost use Rattle.plain.specs.Call.{clear};
 ghost use Rattle.origins_list.specs.Call.{plain};
@@ -12,7 +14,7 @@ use calls_plan::part;
 use map::Map;
 use origins_base::OriginsCall;
 
-#[derive(Drop)]
+#[derive(Clone, Copy)]
 pub enum Plan {
     Step(Map, OriginsCall),
     Refused(u32),
@@ -39,7 +41,7 @@ pub fn plan_of(map: Map, request: Request) -> Plan
 }
 
 // How many bytes of each buffer are cells.
-#[derive(Drop)]
+#[derive(Clone, Copy)]
 pub struct CellSizes {
     pub heap: usize,
     pub stack: usize,

@@ -1,4 +1,6 @@
 // The records of the calls program with origins, taken apart.
+#![tactic(auto)]
+
 ghost use Rattle.std.specs.Prelude.{◌≡◌, ◌≤◌, length};
 ghost use Rattle.origins_base.specs.Answers.{pointer_of};
 ghost use Rattle.calls_format.specs.Records as plain;

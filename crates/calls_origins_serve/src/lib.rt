@@ -1,4 +1,6 @@
 // A request of the calls program with origins, served on the map, the shadows, the cells and the counter that it keeps.
+#![tactic(auto)]
+
 ghost use Rattle.std.specs.Prelude.{◌≡◌, ◌≤◌, length};
 ghost use Rattle.origins_base.specs.Answers.{call_of};
 ghost use Rattle.origins_base.specs.Calls as form;

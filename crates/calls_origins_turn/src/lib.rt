@@ -1,4 +1,6 @@
 // One turn of the calls program with origins: a record is read, served, and its line told.
+#![tactic(auto)]
+
 ghost use Rattle.calls_file.specs.Turn.{Goes, Turned};
 ghost use Rattle.calls_origins_turn.specs.Point.{point_of};
 
@@ -8,7 +10,7 @@ use calls_run::{Run, ended, told};
 use calls_window::unread;
 
 // What goes from record to record, beside shadows and cells.
-#[derive(Drop)]
+#[derive(Clone, Copy)]
 pub struct OriginsRun {
     pub run: Run,
     pub counter: u64,

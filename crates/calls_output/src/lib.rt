@@ -1,4 +1,6 @@
 // Standard output through a buffer. No contract can say which bytes `write` puts out.
+#![tactic(auto)]
+
 ghost use Rattle.std.specs.Prelude.{◌≤◌, length, take};
 ghost use Rattle.monitor_base.specs.Answers.{answer_of};
 ghost use Rattle.calls_format.specs.Lines as lines;
@@ -9,7 +11,7 @@ use libc::STDOUT_FILENO;
 use monitor_base::Answer;
 
 // How many bytes of the buffer wait to be written, and whether the output still takes them.
-#[derive(Drop)]
+#[derive(Clone, Copy)]
 pub struct Pending {
     pub filled: usize,
     pub open: bool,

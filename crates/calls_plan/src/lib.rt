@@ -1,4 +1,6 @@
 // What a request asks of the monitor: a call under a map, on so many bytes of each buffer, or a refusal.
+#![tactic(auto)]
+
 ghost use Rattle.std.specs.Prelude.{◌≡◌, min};
 ghost use Rattle.plain.specs.Call.{clear};
 ghost use Rattle.calls_format.specs.Decoded.{requested};
@@ -8,7 +10,7 @@ use calls_format::Request;
 use map::Map;
 use monitor_base::{Call, Update};
 
-#[derive(Drop)]
+#[derive(Clone, Copy)]
 pub enum Plan {
     Step(Map, Call),
     Refused(u32),
@@ -31,7 +33,7 @@ pub fn plan_of(map: Map, request: Request) -> Plan
 }
 
 // How many bytes of each buffer are shadow.
-#[derive(Drop)]
+#[derive(Clone, Copy)]
 pub struct Sizes {
     pub heap: usize,
     pub primary: usize,

@@ -1,4 +1,6 @@
 // The records of a calls file, taken apart.
+#![tactic(auto)]
+
 ghost use Rattle.std.specs.Prelude.{◌≡◌, true, false, ◌≢◌, ◌+◌, ◌*◌, ◌≤◌, length};
 ghost use Rattle.number.specs.Little.{word};
 ghost use Rattle.number.specs.Parts.{at};

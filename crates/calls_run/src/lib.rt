@@ -1,4 +1,6 @@
 // What goes from record to record, and what it is after one.
+#![tactic(auto)]
+
 ghost use Rattle.std.specs.Prelude.{◌≡◌, false, ◌-◌, ◌≤◌};
 ghost use Rattle.calls_window.specs.Window.{Held};
 ghost use Rattle.calls_output.specs.Pending.{Waits};
@@ -11,7 +13,7 @@ use map::Map;
 use monitor_base::Answer;
 
 // What goes from record to record, beside the shadows: the map, the two buffers' state, and whether the run goes on.
-#[derive(Drop)]
+#[derive(Clone, Copy)]
 pub struct Run {
     pub map: Map,
     pub window: Window,

@@ -1,4 +1,6 @@
 // A request of the calls program, served on the map and the shadows that it keeps.
+#![tactic(auto)]
+
 ghost use Rattle.std.specs.Prelude.{◌≡◌, ◌≤◌, length};
 ghost use Rattle.map.specs.FormMap.{player};
 ghost use Rattle.monitor_base.specs.Answers.{call_of};

@@ -1,4 +1,6 @@
 // One turn of the plain calls program: a record is read, served, and its line told.
+#![tactic(auto)]
+
 ghost use Rattle.calls_file.specs.Turn.{Goes, Turned};
 ghost use Rattle.calls_turn.specs.Point.{point_of};
 

@@ -1,9 +1,11 @@
 // The window of the input's buffer: the bytes that are read and not yet taken, and what is past a record.
+#![tactic(auto)]
+
 ghost use Rattle.std.specs.Prelude.{◌≡◌, ◌-◌, ◌≤◌, length};
 ghost use Rattle.calls_window.specs.Window.{Held, Passed, content};
 
 // The bytes of the buffer that are read and not yet taken, and whether the input may have more.
-#[derive(Drop)]
+#[derive(Clone, Copy)]
 pub struct Window {
     pub at: usize,
     pub end: usize,

@@ -1,4 +1,6 @@
 // What the cell that a position of an area lies in holds, in the cells of that area.
+#![tactic(auto)]
+
 ghost use Rattle.std.specs.Prelude.{◌≡◌, ◌*◌, ◌%◌, ◌≤◌, ◌<◌, length};
 ghost use Rattle.cells_layout.specs.Area.{origin_place, referent_place, half_at};
 

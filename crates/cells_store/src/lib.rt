@@ -1,4 +1,6 @@
 // A number into one half of the cell that a position of an area lies in, in the cells of that area; the other half stays.
+#![tactic(auto)]
+
 ghost use Rattle.std.specs.Prelude.{◌≡◌, ◌*◌, ◌%◌, ◌≤◌, ◌<◌, length};
 ghost use Rattle.cells_layout.specs.Area.{origin_place, referent_place, set_half};
 

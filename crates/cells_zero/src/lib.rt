@@ -1,4 +1,6 @@
 // Zeros in both halves of each cell that touches a block, in the cells of its area.
+#![tactic(auto)]
+
 ghost use Rattle.std.specs.Prelude.{◌≡◌, ◌+◌, ◌*◌, ◌%◌, ◌≤◌, length};
 ghost use Rattle.cells_layout.specs.Area.{zero_cells};
 

@@ -1,4 +1,6 @@
 // The audit of a desk heap shadow, segment by segment: segments of 16 bytes and numbers of 8.
+#![tactic(auto)]
+
 mod walk;
 
 ghost use Rattle.std.specs.Prelude.{◌≡◌, ◌%◌, ◌≤◌, length};

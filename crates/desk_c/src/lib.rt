@@ -1,5 +1,7 @@
 // The desk's calls for C and Rust to link, with the parameters of the player's (`monitor_c`): a map is an array of four numbers, a shadow a pointer
 // and a length, the answer fields go into a lent array of four, and the number is returned.
+#![tactic(auto)]
+
 ghost use Rattle.std.specs.Prelude.{◌≡◌};
 ghost use Rattle.types.specs.Shadows.{shadows};
 ghost use Rattle.types.specs.Call as calls;

@@ -1,4 +1,6 @@
 // One segment of the pass that finds a heap's gaps, in the desk's form: segments of 16 bytes.
+#![tactic(auto)]
+
 ghost use Rattle.std.specs.Prelude.{◌≡◌, ◌+◌, ◌≤◌, length};
 ghost use Rattle.plain.specs.Areas.{place_length};
 ghost use Rattle.heap_gap.specs.Scans.{Ready, turned};

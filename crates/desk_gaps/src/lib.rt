@@ -1,4 +1,6 @@
 // The gaps of a desk's heap shadow, looked at in one pass: segments of 16 bytes.
+#![tactic(auto)]
+
 ghost use Rattle.std.specs.Prelude.{◌≡◌, ◌+◌, ◌%◌, ◌≤◌, length};
 ghost use Rattle.plain.specs.Areas.{place_length};
 ghost use Rattle.heap_gap.specs.Scans.{choice_of};

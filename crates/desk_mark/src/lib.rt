@@ -1,5 +1,7 @@
 // Written bits of the desk's heap, set: two bytes of each segment, at segments of 16 bytes and numbers of 8. Byte 8 of a segment has the bits
 // of its first half, byte 9 those of its second.
+#![tactic(auto)]
+
 ghost use Rattle.std.specs.Prelude.{◌≡◌, ◌+◌, ◌-◌, ◌%◌, ◌≤◌, length};
 ghost use Rattle.plain.specs.Ops.{mark_range};
 ghost use Rattle.heap_layout.specs.Ops.{heap_ops};

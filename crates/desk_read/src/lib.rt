@@ -1,4 +1,6 @@
 // The reading of a position of the desk simulator's heap, at segments of 16 bytes and numbers of 8.
+#![tactic(auto)]
+
 ghost use Rattle.std.specs.Prelude.{◌≡◌, ◌%◌, ◌≤◌, ◌<◌, length};
 ghost use Rattle.number.specs.Parts.{at};
 ghost use Rattle.plain.specs.Answers.{reading_of};

@@ -1,4 +1,6 @@
 // A block of the desk simulator's heap as it begins, stamped into its place: header and segments, at segments of 16 bytes and numbers of 8.
+#![tactic(auto)]
+
 ghost use Rattle.std.specs.Prelude.{◌≡◌, ◌+◌, ◌-◌, ◌%◌, ◌≤◌, length, replicate};
 ghost use Rattle.number.specs.Bits.{of_bits};
 ghost use Rattle.number.specs.Parts.{over};

@@ -1,4 +1,6 @@
 // The audit of a heap shadow, segment by segment.
+#![tactic(auto)]
+
 mod walk;
 
 ghost use Rattle.std.specs.Prelude.{◌≡◌, ◌%◌, ◌≤◌, length};

@@ -1,7 +1,8 @@
 // The types of the heap's audit. Definitions in specs/, laws in proofs/, no code.
+#![tactic(auto)]
 
 // The length of the block that goes on, 0 where none does, and the offset d of the segment in it; blocks, live bytes and written bytes so far.
-#[derive(Drop)]
+#[derive(Clone, Copy)]
 pub struct Walk {
     pub len: u32,
     pub d: u32,
@@ -11,14 +12,14 @@ pub struct Walk {
 }
 
 // What a turn comes to.
-#[derive(Drop)]
+#[derive(Clone, Copy)]
 pub enum Moved {
     On(Walk),
     NoImage,
 }
 
 // The walk as it stands at segment s, some turns ahead.
-#[derive(Drop)]
+#[derive(Clone, Copy)]
 pub struct Ahead {
     pub s: usize,
     pub w: Walk,

@@ -1,4 +1,6 @@
 // Segments of a heap shadow that the audit's walk passes at once: free ones, and the whole ones of a block.
+#![tactic(auto)]
+
 ghost use Rattle.std.specs.Prelude.{◌≡◌, ◌+◌, ◌*◌, ◌/◌, ◌%◌, ◌^◌, ◌<◌, ◌≤◌, length, ◌≢◌};
 ghost use Rattle.number.specs.Little.{word};
 ghost use Rattle.number.specs.Parts.{at};

@@ -1,4 +1,6 @@
 // Free segments passed at once by the search for the next block, at segments of 8 bytes and numbers of 4.
+#![tactic(auto)]
+
 ghost use Rattle.std.specs.Prelude.{◌≡◌, ◌+◌, ◌%◌, ◌≤◌, ◌<◌, length};
 ghost use Rattle.number.specs.Parts.{at};
 ghost use Rattle.heap_laws.specs.Climb.{free_run, FreeSegments};

@@ -1,4 +1,6 @@
 // The operations on a heap shadow, by the form: each form has its own, which share their laws.
+#![tactic(auto)]
+
 ghost use Rattle.std.specs.Prelude.{◌≡◌, ◌+◌, ◌%◌, ◌≤◌, ◌<◌, length};
 ghost use Rattle.number.specs.Parts.{at};
 ghost use Rattle.map.specs.FormMap.{number_size, segment_size};

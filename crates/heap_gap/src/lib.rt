@@ -1,11 +1,13 @@
 // One gap of a heap, in either form, and one segment of the pass that finds it, of 8 bytes.
+#![tactic(auto)]
+
 ghost use Rattle.std.specs.Prelude.{◌≡◌, ◌≤◌};
 ghost use Rattle.plain.specs.Areas.{place_length};
 ghost use Rattle.heap_gap.specs.Scans.{Ready, ended, turned};
 
 // How many gaps are looked at, and which is chosen: where it begins, and its bytes, 0 where none fits. And the bytes of the free segments right
 // before the pass.
-#[derive(Drop)]
+#[derive(Clone, Copy)]
 pub struct Scan {
     pub looked: u32,
     pub start: usize,

@@ -1,4 +1,6 @@
 // The gaps of a heap shadow, looked at in one pass, eight bytes at a time: segments of 8 bytes.
+#![tactic(auto)]
+
 ghost use Rattle.std.specs.Prelude.{◌≡◌, ◌+◌, ◌%◌, ◌≤◌, length};
 ghost use Rattle.plain.specs.Areas.{place_length};
 ghost use Rattle.heap_gap.specs.Scans.{choice_of};

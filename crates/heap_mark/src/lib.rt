@@ -1,4 +1,6 @@
 // Written bits of the heap, set: a byte of each segment, at segments of 8 bytes and numbers of 4.
+#![tactic(auto)]
+
 ghost use Rattle.std.specs.Prelude.{◌≡◌, ◌+◌, ◌%◌, ◌≤◌, length};
 ghost use Rattle.plain.specs.Ops.{mark_range};
 ghost use Rattle.heap_layout.specs.Ops.{heap_ops};

@@ -1,4 +1,6 @@
 // The place of a heap block, tested and emptied: its header and its whole segments.
+#![tactic(auto)]
+
 ghost use Rattle.std.specs.Prelude.{◌≡◌, ◌+◌, ◌%◌, ◌≤◌, length};
 ghost use Rattle.map.specs.FormMap.{number_size, segment_size};
 ghost use Rattle.plain.specs.Areas.{place_length};

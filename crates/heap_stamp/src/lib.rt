@@ -1,4 +1,6 @@
 // A heap block as it begins, stamped into its place: header and segments, at segments of 8 bytes and numbers of 4.
+#![tactic(auto)]
+
 ghost use Rattle.std.specs.Prelude.{◌≡◌, ◌+◌, ◌-◌, ◌%◌, ◌≤◌, length, replicate};
 ghost use Rattle.number.specs.Bits.{of_bits};
 ghost use Rattle.number.specs.Parts.{over};

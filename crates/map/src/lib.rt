@@ -1,16 +1,18 @@
 // The map of the areas, and the conversion between addresses and shadow positions.
+#![tactic(auto)]
+
 ghost use Rattle.std.specs.Prelude.{◌≡◌, ◌+◌, ◌-◌, ◌%◌, ◌<◌, ◌≤◌, ◌&&◌, ◌==◌, nat_le};
 ghost use Rattle.map.specs.Map.{good_map, start_of, end_of};
 ghost use Rattle.map.specs.FormMap.{segment_size, under};
 ghost use Rattle.map.specs.Locating.{Lies};
 
-#[derive(Drop)]
+#[derive(Clone, Copy)]
 pub struct Address(pub u32);
 
-#[derive(Drop)]
+#[derive(Clone, Copy)]
 pub struct Position(pub usize);
 
-#[derive(Drop)]
+#[derive(Clone, Copy)]
 pub struct Map {
     pub heap_start: u32,
     pub heap_size: u32,
@@ -19,13 +21,13 @@ pub struct Map {
 }
 
 // The form of the heap: the player's numbers have four bytes and its segments 8, the desk's eight and 16. The stack is the same in both.
-#[derive(Drop)]
+#[derive(Clone, Copy)]
 pub enum Form {
     Player,
     Desk,
 }
 
-#[derive(Drop)]
+#[derive(Clone, Copy)]
 pub enum Area {
     Heap,
     Stack,
@@ -33,7 +35,7 @@ pub enum Area {
 }
 
 // Where an address lies: its position in the area's shadow.
-#[derive(Drop)]
+#[derive(Clone, Copy)]
 pub enum Located {
     Heap(Position),
     Stack(Position),

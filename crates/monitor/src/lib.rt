@@ -1,4 +1,6 @@
 // The calls of the block monitor, of player and desk: form and map by value, three lent shadows.
+#![tactic(auto)]
+
 ghost use Rattle.std.specs.Prelude.{◌≡◌};
 ghost use Rattle.map.specs.FormMap.{under};
 ghost use Rattle.monitor_base.specs.Answers.{outcome, call_of, any_call_of};

@@ -1,4 +1,6 @@
 // The call that tells of an address: one reading and an answer.
+#![tactic(auto)]
+
 ghost use Rattle.std.specs.Prelude.{◌≡◌, ◌-◌};
 ghost use Rattle.map.specs.FormMap.{under};
 ghost use Rattle.plain.specs.Answers.{reading_of};

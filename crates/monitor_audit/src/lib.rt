@@ -1,4 +1,6 @@
 // The audit of both areas.
+#![tactic(auto)]
+
 ghost use Rattle.std.specs.Prelude.{◌≡◌};
 ghost use Rattle.map.specs.FormMap.{under};
 ghost use Rattle.plain.specs.Call as plain;

@@ -1,4 +1,6 @@
 // What every call of the monitor rests on: its answer, the check of map and lengths, and where an area ends.
+#![tactic(auto)]
+
 pub mod guard;
 pub mod locating;
 
@@ -6,7 +8,7 @@ use map::{Address, Located, Position};
 use plain::Beginning;
 
 // The number, 0 for accepted, and the answer fields in their order, zero where unused.
-#[derive(Drop)]
+#[derive(Clone, Copy)]
 pub struct Answer {
     pub number: u32,
     pub first: u32,
@@ -16,7 +18,7 @@ pub struct Answer {
 }
 
 // The calls that only read. Place, which the form with origins has not, is no Query: see PlainCall.
-#[derive(Drop)]
+#[derive(Clone, Copy)]
 pub enum Query {
     Ask(Address),
     // May n bytes from the first address on be read, in the block of the second; where the flag is set, may they be written as well.
@@ -27,7 +29,7 @@ pub enum Query {
 }
 
 // The calls that write.
-#[derive(Drop)]
+#[derive(Clone, Copy)]
 pub enum Update {
     Clear,
     Begin(Beginning, Address, u32),
@@ -37,28 +39,28 @@ pub enum Update {
 }
 
 // The calls that every form has.
-#[derive(Drop)]
+#[derive(Clone, Copy)]
 pub enum Call {
     Query(Query),
     Update(Update),
 }
 
 // Any call of player and desk: place, of a length and a budget, has no kind, and the form with origins has it not.
-#[derive(Drop)]
+#[derive(Clone, Copy)]
 pub enum PlainCall {
     Call(Call),
     Place(u32, u32),
 }
 
 // What the check of a call that ends a block found: the block's position and length, or, where nothing is to be erased, the number.
-#[derive(Drop)]
+#[derive(Clone, Copy)]
 pub enum Ending {
     Block(Position, u32),
     Settled(u32),
 }
 
 // What the check of any other call that writes found: its number, and, where that is 0, where its address lies.
-#[derive(Drop)]
+#[derive(Clone, Copy)]
 pub struct Checked {
     pub number: u32,
     pub place: Located,

@@ -1,4 +1,6 @@
 // Whether a block may begin in one of the areas: it fits, is aligned, and its place is vacant.
+#![tactic(auto)]
+
 ghost use Rattle.std.specs.Prelude.{◌≡◌, ◌%◌, ◌≤◌, ◌<◌, length};
 ghost use Rattle.map.specs.FormMap.{number_size, segment_size};
 ghost use Rattle.plain.specs.Call as plain;

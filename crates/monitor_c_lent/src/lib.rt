@@ -1,5 +1,7 @@
 // What the exported functions of every form share: a map and the answer fields are lent as arrays of four numbers. And the two calls whose arguments could be
 // taken for each other.
+#![tactic(auto)]
+
 ghost use Rattle.std.specs.Prelude.{◌≡◌, length};
 ghost use Rattle.map.specs.FormMap.{under};
 ghost use Rattle.plain.specs.Call as plain;

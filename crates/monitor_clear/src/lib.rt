@@ -1,4 +1,6 @@
 // Clears the shadows.
+#![tactic(auto)]
+
 ghost use Rattle.std.specs.Prelude.{◌≡◌};
 ghost use Rattle.map.specs.FormMap.{under};
 ghost use Rattle.plain.specs.Call as plain;

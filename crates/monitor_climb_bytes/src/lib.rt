@@ -1,4 +1,6 @@
 // Free bytes of the stack passed at once by the search for the next block.
+#![tactic(auto)]
+
 ghost use Rattle.std.specs.Prelude.{◌≤◌, ◌<◌, length};
 ghost use Rattle.number.specs.Parts.{at};
 ghost use Rattle.monitor_read_laws.specs.Climbed.{FreeBytes};

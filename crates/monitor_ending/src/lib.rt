@@ -1,4 +1,6 @@
 // What a reading says of a block that is to end.
+#![tactic(auto)]
+
 ghost use Rattle.std.specs.Prelude.{◌≡◌};
 ghost use Rattle.plain.specs.Answers.{reading_of};
 ghost use Rattle.monitor_write_laws.specs.Checks.{ending_of};

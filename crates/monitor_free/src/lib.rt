@@ -1,4 +1,6 @@
 // Frees a block of the heap: the check, then the effect.
+#![tactic(auto)]
+
 ghost use Rattle.std.specs.Prelude.{◌≡◌};
 ghost use Rattle.map.specs.FormMap.{under};
 ghost use Rattle.monitor_base.specs.Answers.{outcome};

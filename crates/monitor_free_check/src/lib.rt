@@ -1,4 +1,6 @@
 // The check of a free, after that of map and lengths: it only reads.
+#![tactic(auto)]
+
 ghost use Rattle.std.specs.Prelude.{◌≡◌, true};
 ghost use Rattle.map.specs.FormMap.{number_size, segment_size, under};
 ghost use Rattle.map.specs.Map.{good_map};

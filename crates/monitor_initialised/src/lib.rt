@@ -1,4 +1,6 @@
 // Whether bytes of one block are written: a reading of the first, the written bits of all, and an answer.
+#![tactic(auto)]
+
 ghost use Rattle.std.specs.Prelude.{◌≡◌, ◌%◌, ◌≤◌, ◌<◌, length};
 ghost use Rattle.map.specs.FormMap.{number_size, segment_size, under};
 ghost use Rattle.number.specs.Parts.{at};

@@ -1,4 +1,6 @@
 // The search for the next block, address by address.
+#![tactic(auto)]
+
 ghost use Rattle.std.specs.Prelude.{◌≡◌, true};
 ghost use Rattle.map.specs.FormMap.{under};
 ghost use Rattle.map.specs.Map.{good_map};
@@ -14,7 +16,7 @@ use map::{Address, Form, Map};
 use monitor_base::{Answer, guard};
 
 // What the search comes to: base and length, no block, or a damaged reading before one.
-#[derive(Drop)]
+#[derive(Clone, Copy)]
 pub enum Search {
     Found(Address, u32),
     None,

@@ -1,4 +1,6 @@
 // A place for the next block: the smallest of the heap's gaps that fits.
+#![tactic(auto)]
+
 ghost use Rattle.std.specs.Prelude.{◌≡◌};
 ghost use Rattle.map.specs.FormMap.{segment_size, under};
 ghost use Rattle.plain.specs.Call as plain;

@@ -1,4 +1,6 @@
 // Any call that only reads.
+#![tactic(auto)]
+
 ghost use Rattle.std.specs.Prelude.{◌≡◌};
 ghost use Rattle.map.specs.FormMap.{under};
 ghost use Rattle.monitor_base.specs.Answers.{outcome, query_of};

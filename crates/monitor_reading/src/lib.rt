@@ -1,4 +1,6 @@
 // The reading of where an address lies, and what a reading says.
+#![tactic(auto)]
+
 ghost use Rattle.std.specs.Prelude.{◌≡◌, cond};
 ghost use Rattle.map.specs.FormMap.{number_size, segment_size};
 ghost use Rattle.plain.specs.Answers.{reading_of};

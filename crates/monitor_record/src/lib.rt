@@ -1,4 +1,6 @@
 // Records a block: the check, then the effect.
+#![tactic(auto)]
+
 ghost use Rattle.std.specs.Prelude.{◌≡◌};
 ghost use Rattle.map.specs.FormMap.{under};
 ghost use Rattle.shadows.specs.Shadows.{Shadows};

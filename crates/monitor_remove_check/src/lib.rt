@@ -1,4 +1,6 @@
 // The check of a remove, after that of map and lengths: it only reads.
+#![tactic(auto)]
+
 ghost use Rattle.std.specs.Prelude.{◌≡◌, true};
 ghost use Rattle.map.specs.FormMap.{under};
 ghost use Rattle.map.specs.Map.{good_map};

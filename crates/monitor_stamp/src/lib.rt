@@ -1,4 +1,6 @@
 // The effect of a record.
+#![tactic(auto)]
+
 ghost use Rattle.std.specs.Prelude.{◌≡◌};
 ghost use Rattle.map.specs.FormMap.{number_size, segment_size};
 ghost use Rattle.shadows.specs.Shadows.{Shadows};

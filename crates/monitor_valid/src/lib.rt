@@ -1,4 +1,6 @@
 // Whether bytes lie in one block with another, and may be written: two readings in the areas that they lie in, and an answer.
+#![tactic(auto)]
+
 ghost use Rattle.std.specs.Prelude.{◌≡◌, Bool, true, ℕ, ◌<◌, length};
 ghost use Rattle.map.specs.FormMap.{number_size, segment_size, under};
 ghost use Rattle.number.specs.Parts.{at};

@@ -1,4 +1,6 @@
 // Whether bytes lie in the block of their first: one reading, and an answer.
+#![tactic(auto)]
+
 ghost use Rattle.std.specs.Prelude.{◌≡◌, true};
 ghost use Rattle.map.specs.FormMap.{under};
 ghost use Rattle.map.specs.Map.{good_map};

@@ -1,4 +1,6 @@
 // The check of a mark of written bytes: it only reads.
+#![tactic(auto)]
+
 ghost use Rattle.std.specs.Prelude.{◌≡◌};
 ghost use Rattle.map.specs.FormMap.{segment_size, under};
 ghost use Rattle.plain.specs.Answers.{reading_of};

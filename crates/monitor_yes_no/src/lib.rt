@@ -1,4 +1,6 @@
 // What readings say of bytes.
+#![tactic(auto)]
+
 ghost use Rattle.std.specs.Prelude.{◌≡◌};
 ghost use Rattle.plain.specs.Answers.{reading_of};
 ghost use Rattle.plain.specs.ShadowCalls.{is_literal, same_block};

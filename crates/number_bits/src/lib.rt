@@ -1,4 +1,6 @@
 // The bits of a byte, and the bytes of a number.
+#![tactic(auto)]
+
 ghost use Rattle.std.specs.Prelude.{◌≡◌, ◌+◌, ◌^◌, ◌≤◌, ◌<◌, eqb};
 ghost use Rattle.number.specs.Little.{byte_of, word};
 ghost use Rattle.number.specs.Bits.{bit_of, with_bits, bits_set, ones_of};

@@ -1,4 +1,6 @@
 // Runs of zeros in a slice, 32 bytes at a time.
+#![tactic(auto)]
+
 ghost use Rattle.std.specs.Prelude.{◌≡◌, ◌+◌, ◌≤◌, length};
 ghost use Rattle.number.specs.Parts.{at, zeros};
 

@@ -1,4 +1,6 @@
 // Little-endian numbers in a slice, read and written.
+#![tactic(auto)]
+
 ghost use Rattle.std.specs.Prelude.{◌≡◌, ◌+◌, ◌-◌, ◌≤◌, ◌<◌, length};
 ghost use Rattle.number.specs.Little.{le, bytes_of, byte_of, word};
 ghost use Rattle.number.specs.Parts.{at, over};

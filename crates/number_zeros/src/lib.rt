@@ -1,4 +1,6 @@
 // Parts of a slice that are zero, and filling them with zeros.
+#![tactic(auto)]
+
 ghost use Rattle.std.specs.Prelude.{◌≡◌, ◌+◌, ◌≤◌, length};
 ghost use Rattle.number.specs.Parts.{at, zeros, over};
 

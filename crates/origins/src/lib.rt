@@ -1,4 +1,6 @@
 // The calls of the block monitor with origins, on a map by value, three lent shadows, the cells of both areas, and a counter by value.
+#![tactic(auto)]
+
 ghost use Rattle.std.specs.Prelude.{◌≡◌};
 ghost use Rattle.monitor_base.specs.Answers as plain_form;
 ghost use Rattle.origins_list.specs.Call as form;

@@ -1,4 +1,6 @@
 // The call that tells of an address, in the form with origins: it only adds that the cells fit.
+#![tactic(auto)]
+
 ghost use Rattle.std.specs.Prelude.{◌≡◌, ℕ};
 ghost use Rattle.plain.specs.Call as base;
 ghost use Rattle.origins_list.specs.Call.{plain};

@@ -1,4 +1,6 @@
 // Begins a block in the form with origins: the check, then the effect.
+#![tactic(auto)]
+
 ghost use Rattle.std.specs.Prelude.{◌≡◌, ◌≤◌};
 ghost use Rattle.plain.specs.Call as calls;
 ghost use Rattle.origins_list.specs.Call.{plain};

@@ -1,5 +1,7 @@
 // The calls of the form with origins for C and Rust to link: as in `monitor_c`, with two shadows of cells more; the calls that record take a
 // pointer to the counter.
+#![tactic(auto)]
+
 ghost use Rattle.std.specs.Prelude.{◌≡◌, ℕ};
 ghost use Rattle.types.specs.Call as calls;
 ghost use Rattle.types.specs.Origins.{plain, point, copy, live};

@@ -1,5 +1,7 @@
 // What the exported functions of the form with origins share besides `monitor_c_lent`: the counter is lent too. And the calls whose addresses
 // could be taken for each other.
+#![tactic(auto)]
+
 ghost use Rattle.std.specs.Prelude.{◌≡◌, ℕ, length};
 ghost use Rattle.plain.specs.Call as calls;
 ghost use Rattle.monitor_base.specs.Answers.{answer_of};

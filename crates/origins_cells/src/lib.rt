@@ -1,4 +1,6 @@
 // The cells of the area that an address lies in: a number into half of a cell.
+#![tactic(auto)]
+
 ghost use Rattle.std.specs.Prelude.{◌≡◌};
 ghost use Rattle.cells_layout.specs.Cells.{Cells};
 ghost use Rattle.origins_laws.specs.CellsAt.{CellAt, set_origin_at, set_referent_at};

@@ -1,4 +1,6 @@
 // What the cells of the area that an address lies in hold: the referent of its cell, the origin of its block.
+#![tactic(auto)]
+
 ghost use Rattle.std.specs.Prelude.{◌≡◌};
 ghost use Rattle.plain.specs.Answers.{reading_of};
 ghost use Rattle.origins_laws.specs.CellsAt.{CellAt, referent_at, origin_in, origin_at};

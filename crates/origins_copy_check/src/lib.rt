@@ -1,4 +1,6 @@
 // The check of a copy: it only reads.
+#![tactic(auto)]
+
 ghost use Rattle.std.specs.Prelude.{◌≡◌};
 ghost use Rattle.cells_layout.specs.Cells.{cell_ops};
 ghost use Rattle.origins_laws.specs.Pointers.{copy_number, CellLies};

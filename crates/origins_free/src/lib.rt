@@ -1,4 +1,6 @@
 // Frees a block of the heap in the form with origins: the check, then the effect on shadow and cells.
+#![tactic(auto)]
+
 ghost use Rattle.std.specs.Prelude.{◌≡◌, ℕ};
 ghost use Rattle.plain.specs.Call as calls;
 ghost use Rattle.origins_list.specs.Call.{plain};

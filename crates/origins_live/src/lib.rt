@@ -1,5 +1,7 @@
 // Whether the allocation that the pointer in a cell was last set to is live and holds an address: two readings, and two origins that are
 // the same.
+#![tactic(auto)]
+
 ghost use Rattle.std.specs.Prelude.{◌≡◌, ℕ};
 ghost use Rattle.origins_list.specs.Call as form;
 ghost use Rattle.origins_base.specs.Answers.{lent, outcome_at};

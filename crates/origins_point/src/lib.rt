@@ -1,4 +1,6 @@
 // Sets the pointer in a cell to the block that holds an address: the check, then the effect.
+#![tactic(auto)]
+
 ghost use Rattle.std.specs.Prelude.{◌≡◌, ℕ};
 ghost use Rattle.origins_list.specs.Call as form;
 ghost use Rattle.origins_base.specs.Answers.{lent, outcome_at};

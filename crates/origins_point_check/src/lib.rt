@@ -1,4 +1,6 @@
 // The check of a point: it only reads.
+#![tactic(auto)]
+
 ghost use Rattle.std.specs.Prelude.{◌≡◌};
 ghost use Rattle.origins_laws.specs.Pointers.{point_number, origin_held, CellLies};
 

@@ -1,4 +1,6 @@
 // What the calls of pointers share: what the check of a call that writes found, and the numbers that readings give.
+#![tactic(auto)]
+
 ghost use Rattle.std.specs.Prelude.{◌≡◌};
 ghost use Rattle.plain.specs.Answers.{reading_of};
 ghost use Rattle.origins_laws.specs.Pointers.{holds_pointer, point_refusal, copy_refusal};
@@ -8,7 +10,7 @@ use monitor_reading::{damaged, in_one};
 use plain::Reading;
 
 // The number, and, where that is 0, where the cell lies, and the origin that its referent is set to.
-#[derive(Drop)]
+#[derive(Clone, Copy)]
 pub struct Aim {
     pub number: u32,
     pub place: Located,

@@ -1,4 +1,6 @@
 // Any call of pointers.
+#![tactic(auto)]
+
 ghost use Rattle.std.specs.Prelude.{◌≡◌, ℕ};
 ghost use Rattle.origins_base.specs.Answers.{lent, outcome_at, pointer_of};
 ghost use Rattle.origins_base.specs.Calls.{call};

@@ -1,4 +1,6 @@
 // The other questions of the plain form, in the form with origins: they only add that the cells fit.
+#![tactic(auto)]
+
 ghost use Rattle.std.specs.Prelude.{◌≡◌, ℕ};
 ghost use Rattle.plain.specs.Call as base;
 ghost use Rattle.origins_list.specs.Call.{plain};

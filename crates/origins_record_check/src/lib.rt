@@ -1,4 +1,6 @@
 // The check of a record in the form with origins: it only reads.
+#![tactic(auto)]
+
 ghost use Rattle.std.specs.Prelude.{◌≡◌, ◌≤◌};
 ghost use Rattle.map.specs.FormMap.{player};
 ghost use Rattle.plain.specs.Call as calls;

@@ -1,4 +1,6 @@
 // Removes a block of the stack in the form with origins: the check, then the effect on shadows and cells.
+#![tactic(auto)]
+
 ghost use Rattle.std.specs.Prelude.{◌≡◌, ℕ};
 ghost use Rattle.plain.specs.Call as calls;
 ghost use Rattle.origins_list.specs.Call.{plain};

@@ -1,4 +1,6 @@
 // Any call of the plain form that writes, in the form with origins.
+#![tactic(auto)]
+
 ghost use Rattle.std.specs.Prelude.{◌≡◌};
 ghost use Rattle.monitor_base.specs.Answers.{update_of};
 ghost use Rattle.origins_list.specs.Call.{plain};

@@ -17,16 +17,21 @@ use Rattle.plain.specs.Gaps.{Gap, smaller, best, Among, Ascending}
 
 pub each-among : (P : Gap → Type 0) (gs : List Gap) (g : Gap) → Each P gs → Among g gs → P g
 each-among P (h ∷ hs) g e (inl q) = subst P (sym q) e.0
+each-among P [] g e x'' = elim x'' [ ]
 each-among P (h ∷ hs) g e (inr a) = each-among P hs g e.1 a
 
 -- what is looked at with a smaller budget is with a larger one
 pub take_more : (k k' : ℕ) (gs : List Gap) (g : Gap) → k ≤ k' → Among g (take k gs) → Among g (take k' gs)
 take_more (suc k) zero gs g h a = absurd (omega arith)
+take_more zero _ gs g h a = elim a [ ]
+take_more (suc k) (suc k') [] g h a = elim a [ ]
 take_more (suc k) (suc k') (x ∷ xs) g h (inl q) = inl q
 take_more (suc k) (suc k') (x ∷ xs) g h (inr a) = inr (take_more k k' xs g (omega arith) a)
 
 pub take-among : (k : ℕ) (gs : List Gap) (g : Gap) → Among g (take k gs) → Among g gs
 take-among (suc k) (x ∷ xs) g (inl q) = inl q
+take-among zero gs g x' = elim x' [ ]
+take-among (suc k) [] g x3 = elim x3 [ ]
 take-among (suc k) (x ∷ xs) g (inr a) = inr (take-among k xs g a)
 
 pub take_whole : (gs : List Gap) → take (length gs) gs ≡ gs

@@ -1,4 +1,6 @@
 // Runs samples: writes each line of standard input again, with what the proved code answers as its right-hand side.
+#![tactic(auto)]
+
 use map::Form;
 use samples_input::Line;
 use samples_output::{malformed, write};

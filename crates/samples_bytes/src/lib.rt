@@ -1,4 +1,6 @@
 // The shadow bytes that a sample gives: `heap@8=1,0 pri@0=4`.
+#![tactic(auto)]
+
 pub mod changes;
 
 ghost use Rattle.std.specs.Prelude.{◌≡◌, cond, ◌-◌, ltb, length};

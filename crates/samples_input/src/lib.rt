@@ -1,8 +1,10 @@
 // Standard input, line by line.
+#![tactic(auto)]
+
 ghost use Rattle.std.specs.Prelude.{◌≡◌, length};
 ghost use Rattle.samples_input.specs.Input.{IsLine, last_line};
 
-#[derive(Drop)]
+#[derive(Clone, Copy)]
 pub enum Line {
     End,
     // So many bytes of the buffer, before the line's end.
@@ -11,7 +13,7 @@ pub enum Line {
     Long,
 }
 
-#[derive(Drop)]
+#[derive(Clone, Copy)]
 pub enum Byte {
     End,
     Is(u8),

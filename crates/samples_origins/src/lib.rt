@@ -1,4 +1,6 @@
 // Samples of the form with origins: a call on a given state, or a run of its calls program.
+#![tactic(auto)]
+
 pub mod calls;
 pub mod named;
 pub mod runs;

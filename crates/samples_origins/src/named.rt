@@ -4,7 +4,7 @@ use monitor_base::{Call, Update};
 use origins_base::OriginsCall;
 use samples_records::Item;
 
-#[derive(Drop)]
+#[derive(Clone, Copy)]
 pub enum Asked {
     Malformed,
     // The kind of its record, 0 where it has none, and the call.

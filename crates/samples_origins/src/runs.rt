@@ -4,7 +4,7 @@ use map::Map;
 use samples_output::{gap, write, write_line};
 use samples_records::Item;
 
-#[derive(Drop)]
+#[derive(Clone, Copy)]
 pub enum After {
     Stop,
     Kept(Map, u64),

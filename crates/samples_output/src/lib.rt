@@ -1,4 +1,6 @@
 // What the samples program writes. No contract can say which bytes `write` puts out.
+#![tactic(auto)]
+
 ghost use Rattle.std.specs.Prelude.{◌≡◌, ◌||◌, length};
 ghost use Rattle.samples_bytes.specs.Changes.{differ};
 

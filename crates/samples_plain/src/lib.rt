@@ -1,4 +1,6 @@
 // Samples of the plain form: a call on given shadow bytes, or a run of the calls program.
+#![tactic(auto)]
+
 pub mod calls;
 pub mod runs;
 

@@ -1,4 +1,6 @@
 // A record's bytes, made of the numbers of a line.
+#![tactic(auto)]
+
 pub mod names;
 
 ghost use Rattle.std.specs.Prelude.{◌≡◌, ◌≤◌, length};
@@ -8,13 +10,13 @@ ghost use Rattle.samples_records.specs.Records.{numbers_at, fields_of, put_numbe
 use samples_text::Number;
 
 // How many bytes a record has, its head included, and the place after its last number.
-#[derive(Drop)]
+#[derive(Clone, Copy)]
 pub struct Fields {
     pub length: usize,
     pub at: usize,
 }
 
-#[derive(Drop)]
+#[derive(Clone, Copy)]
 pub enum Item {
     End,
     Malformed,

@@ -3,7 +3,7 @@ ghost use Rattle.std.specs.Prelude.{◌≡◌, ◌≤◌};
 ghost use Rattle.samples_records.specs.Names.{or_named, or_names, name_in, changing_names, reading_names, pointer_names, call_names};
 
 // A call's kind, and the place after its name; kind 0, and the place of the name, while none is found.
-#[derive(Drop)]
+#[derive(Clone, Copy)]
 pub struct Named {
     pub kind: u32,
     pub at: usize,

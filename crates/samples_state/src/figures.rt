@@ -6,7 +6,7 @@ use samples_bytes::larger;
 use samples_text::{Long, Number, after_word};
 
 // How long each shadow is, and the counter.
-#[derive(Drop)]
+#[derive(Clone, Copy)]
 pub struct Figures {
     pub heap: usize,
     pub primary: usize,
@@ -17,21 +17,21 @@ pub struct Figures {
 }
 
 // A shadow's length, and the place that was come to.
-#[derive(Drop)]
+#[derive(Clone, Copy)]
 pub struct Length {
     pub at: usize,
     pub value: usize,
 }
 
 // The counter, and the place that was come to.
-#[derive(Drop)]
+#[derive(Clone, Copy)]
 pub struct Count {
     pub at: usize,
     pub value: u64,
 }
 
 // Figures, and the place that was come to.
-#[derive(Drop)]
+#[derive(Clone, Copy)]
 pub struct Part {
     pub at: usize,
     pub figures: Figures,

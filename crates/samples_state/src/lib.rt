@@ -1,4 +1,6 @@
 // The state that a sample of the form with origins gives: `heap@8=1,0 stackcells@4=9 heapcells=120 counter=5`.
+#![tactic(auto)]
+
 pub mod figures;
 
 ghost use Rattle.std.specs.Prelude.{◌≡◌, ◌≤◌, length};
@@ -79,7 +81,7 @@ fn part_at(
 }
 
 // The place after the colon that ends a state, and its figures.
-#[derive(Drop)]
+#[derive(Clone, Copy)]
 pub struct Given {
     pub call: Place,
     pub figures: Figures,

@@ -1,23 +1,25 @@
 // Text taken apart: each function takes a line and a place in it, and tells the place after what it found.
+#![tactic(auto)]
+
 ghost use Rattle.std.specs.Prelude.{◌≡◌, cond, ◌-◌};
 ghost use Rattle.samples_text.specs.Text as text;
 ghost use Rattle.samples_text.specs.Text.{is_digit};
 
-#[derive(Drop)]
+#[derive(Clone, Copy)]
 pub enum Number {
     Missing,
     // The number, and the place after its last digit.
     Is(u32, usize),
 }
 
-#[derive(Drop)]
+#[derive(Clone, Copy)]
 pub enum Long {
     Missing,
     // The same with a number of 64 bits.
     Is(u64, usize),
 }
 
-#[derive(Drop)]
+#[derive(Clone, Copy)]
 pub enum Place {
     Missing,
     At(usize),

@@ -1,4 +1,6 @@
 // The audit of the two stack shadows: a walk from byte to byte, which passes runs of zeros and of a block's bytes at once.
+#![tactic(auto)]
+
 ghost use Rattle.std.specs.Prelude.{◌≡◌, ◌≤◌, length};
 ghost use Rattle.number.specs.Parts.{at};
 ghost use Rattle.plain.specs.Answers.{stack_tally};

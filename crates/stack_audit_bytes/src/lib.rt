@@ -1,4 +1,6 @@
 // What each byte of a block has in the shadows.
+#![tactic(auto)]
+
 ghost use Rattle.std.specs.Prelude.{◌≡◌, ◌||◌, ◌+◌, ◌-◌, ◌%◌, ◌<◌, ◌≤◌, eqb};
 ghost use Rattle.number.specs.Little.{byte_of};
 ghost use Rattle.stack_layout.specs.Code.{piece_of, code_of, low_bits, secondary_of, short_length};

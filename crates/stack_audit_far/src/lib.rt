@@ -1,4 +1,6 @@
 // The whole pieces of a long block, up to 31 of them looked at together.
+#![tactic(auto)]
+
 ghost use Rattle.std.specs.Prelude.{◌≡◌, ◌+◌, ◌*◌, ◌-◌, ◌%◌, ◌<◌, ◌≤◌, length};
 ghost use Rattle.number.specs.Parts.{at, run_of, odd_bytes};
 ghost use Rattle.stack_audit_laws.specs.Runs.{Inside, first_byte, stands_at};

@@ -1,7 +1,8 @@
 // The types of the stack's audit. Definitions in specs/, laws in proofs/, no code.
+#![tactic(auto)]
 
 // The block that goes on, its length 0 where none does, and the next byte's offset in it; the totals so far.
-#[derive(Drop)]
+#[derive(Clone, Copy)]
 pub struct Walk {
     pub len: u32,
     pub i: u32,
@@ -11,14 +12,14 @@ pub struct Walk {
 }
 
 // A run of bytes: how many, and how many of them are written.
-#[derive(Drop)]
+#[derive(Clone, Copy)]
 pub struct Run {
     pub n: usize,
     pub written: u32,
 }
 
 // What a turn comes to: the walk past some bytes, and how many.
-#[derive(Drop)]
+#[derive(Clone, Copy)]
 pub enum Moved {
     On(Walk, usize),
     NoImage,

@@ -1,4 +1,6 @@
 // The whole pieces of a long block, in stretches, and eight bytes at a time where a stretch is not all its own.
+#![tactic(auto)]
+
 ghost use Rattle.std.specs.Prelude.{◌≡◌, ◌*◌, ◌/◌, ◌%◌, ◌<◌, ◌≤◌, min, eqb};
 ghost use Rattle.number.specs.Parts.{run_of};
 ghost use Rattle.stack_audit_laws.specs.Runs.{Inside, run_at, first_byte, climbs, own_run};

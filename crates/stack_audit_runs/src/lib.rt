@@ -1,4 +1,6 @@
 // Runs of bytes of one block that are looked at together: whole pieces, or its last bytes.
+#![tactic(auto)]
+
 ghost use Rattle.std.specs.Prelude.{◌≡◌, false, cond, ◌+◌, ◌-◌, ◌%◌, ◌<◌, ◌≤◌, eqb, length};
 ghost use Rattle.number.specs.Parts.{run_of};
 ghost use Rattle.stack_audit_laws.specs.Runs.{Inside, run_at, stands_in, end_run, has_piece, ahead_run};

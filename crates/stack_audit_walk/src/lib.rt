@@ -1,4 +1,6 @@
 // The steps of the audit's walk, byte by byte.
+#![tactic(auto)]
+
 ghost use Rattle.std.specs.Prelude.{◌≡◌, ◌+◌, ◌<◌, ◌≤◌, max, length};
 ghost use Rattle.number.specs.Parts.{at};
 ghost use Rattle.stack_audit_laws.specs.Turn as turn;

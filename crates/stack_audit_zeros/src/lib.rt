@@ -1,4 +1,6 @@
 // Zeros in both shadows, passed 32 bytes at a time and then eight.
+#![tactic(auto)]
+
 ghost use Rattle.std.specs.Prelude.{◌≡◌};
 ghost use Rattle.stack_audit_laws.specs.Runs.{Inside, clear_to};
 

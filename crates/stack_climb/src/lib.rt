@@ -1,4 +1,6 @@
 // Primary bytes whose codes climb by one, in a part of the shadow.
+#![tactic(auto)]
+
 ghost use Rattle.std.specs.Prelude.{◌≡◌, ◌+◌, ◌-◌, ◌*◌, ◌≤◌, length};
 ghost use Rattle.number.specs.Parts.{over};
 

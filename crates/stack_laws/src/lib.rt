@@ -1,1 +1,2 @@
 // The laws that the code of the stack layout rests on; there is no code here.
+#![tactic(auto)]

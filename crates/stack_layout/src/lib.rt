@@ -1,1 +1,2 @@
 // Theory: definitions in specs/, laws in proofs/, no code.
+#![tactic(auto)]

@@ -1,4 +1,6 @@
 // Written bits of the stack, set: bit 0 of each primary byte of a range.
+#![tactic(auto)]
+
 ghost use Rattle.std.specs.Prelude.{◌≡◌, List, ℕ, ◌+◌, ◌≤◌, length};
 ghost use Rattle.number.specs.Parts.{at, over};
 ghost use Rattle.plain.specs.Ops.{mark_range};

@@ -1,4 +1,6 @@
 // Written bits of the stack, tested: bit 0 of each primary byte of a range.
+#![tactic(auto)]
+
 ghost use Rattle.std.specs.Prelude.{◌≡◌, List, [], ℕ, ◌+◌, ◌≤◌, length};
 ghost use Rattle.plain.specs.Ops.{range_marked};
 ghost use Rattle.stack_layout.specs.Ops.{stack_ops};

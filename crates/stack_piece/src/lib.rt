@@ -1,4 +1,6 @@
 // Clauses of a stack reading: what can stand in a piece, and whether the block found fits the area.
+#![tactic(auto)]
+
 ghost use Rattle.std.specs.Prelude.{◌≡◌, ◌<◌, ◌≤◌};
 ghost use Rattle.plain.specs.Answers.{reading_of};
 ghost use Rattle.stack_layout.specs.Reading.{fitted, bad_piece};

@@ -1,4 +1,6 @@
 // The place of a stack block, tested and emptied: its own bytes of both shadows.
+#![tactic(auto)]
+
 ghost use Rattle.std.specs.Prelude.{◌≡◌, ◌+◌, ◌≤◌, length};
 ghost use Rattle.stack_layout.specs.Ops.{StackShadows, stack_vacant, stack_erase};
 

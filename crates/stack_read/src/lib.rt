@@ -1,4 +1,6 @@
 // The reading of a position of the stack.
+#![tactic(auto)]
+
 ghost use Rattle.std.specs.Prelude.{◌≡◌, ℕ, ◌<◌, ◌≤◌, length, ◌≢◌};
 ghost use Rattle.number.specs.Parts.{at};
 ghost use Rattle.plain.specs.Answers.{reading_of};
@@ -9,7 +11,7 @@ use plain::Reading;
 use stack_table::{short_after, short_offset};
 
 // What a code tells of a byte: its block's length, and its offset there.
-#[derive(Drop)]
+#[derive(Clone, Copy)]
 struct Spot {
     len: u32,
     i: u32,

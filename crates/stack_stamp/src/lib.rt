@@ -1,4 +1,6 @@
 // A stack block as it begins, stamped into its place: codes in the primary, length and offset of each piece in the secondary.
+#![tactic(auto)]
+
 ghost use Rattle.std.specs.Prelude.{◌≡◌, true, ◌+◌, ◌≤◌, ◌-◌, length};
 ghost use Rattle.number.specs.Parts.{at, zeros, over};
 ghost use Rattle.plain.specs.Block.{starts_written, starts_literal, begun};

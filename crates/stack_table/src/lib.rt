@@ -1,4 +1,6 @@
 // The codes of short blocks: how many there are, and what one tells.
+#![tactic(auto)]
+
 ghost use Rattle.std.specs.Prelude.{◌≡◌, ◌+◌, ◌-◌, ◌*◌, ◌/◌, ◌≤◌, ◌<◌};
 ghost use Rattle.stack_layout.specs.Code.{short_length, short_offset};
 

@@ -1,4 +1,6 @@
 // Whole blocks of four and of eight bytes, the commonest, found by one comparison, before any reading.
+#![tactic(auto)]
+
 ghost use Rattle.std.specs.Prelude.{◌≡◌, ◌&&◌, ◌+◌, ◌<◌, ◌≤◌, leb, eqb, length};
 ghost use Rattle.number.specs.Parts.{at};
 ghost use Rattle.stack_laws.specs.Whole.{whole_written, whole_writable};

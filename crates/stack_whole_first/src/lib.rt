@@ -1,4 +1,6 @@
 // The first byte of a block of four or of eight bytes, the commonest, told by its code, before any reading.
+#![tactic(auto)]
+
 ghost use Rattle.std.specs.Prelude.{◌≡◌, ◌<◌, ◌≤◌, length};
 ghost use Rattle.number.specs.Parts.{at};
 ghost use Rattle.stack_laws.specs.Whole.{whole_length};

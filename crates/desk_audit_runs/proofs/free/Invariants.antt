@@ -1,0 +1,16 @@
+-- `desk_audit_runs::free` meets its contract. Assumes nothing.
+use mathlib.Core.Path.{refl, sym, ◌∙◌}
+use Prim.Native.Nat.{◌-◌}
+use native.Mathlib.Omega.{arith}
+use lib.ListN.{length}
+use borrow.Author.Rules.{rules}
+use borrow.Author.Tests.{not-false}
+use Rattle.heap_audit_laws.specs.Runs.{Passed}
+use Rattle.heap_audit_laws.proofs.RunLaws.{passed_none, passed-free}
+use Rattle.desk_audit_runs.proofs.free.Given as goal
+
+abbrev pub invariant-loop-t : goal.invariant-loop-t
+invariant-loop-t l = Passed 8 16 l.heap l.s l.w l.t l.w
+
+abbrev pub decreases-loop-t : goal.decreases-loop-t
+decreases-loop-t l = length l.heap - l.t

@@ -1,0 +1,18 @@
+-- `heap_place::vacant` meets its contract. Assumes nothing.
+use mathlib.Core.Path.{◌∙◌}
+use native.Mathlib.Omega.{arith}
+use Rattle.map.specs.FormMap.{segment_size, wide_of, two_of}
+use Rattle.heap_layout.specs.Ops.{heap_vacant}
+use Rattle.heap_laws.proofs.PlaceLaws.{place_in}
+use borrow.Author.Rules.{rules}
+use Rattle.heap_place.proofs.vacant.Goals as goal
+
+pub zero_at-requires : goal.zero_at-requires
+zero_at-requires c =
+    let p = c.requires in
+    rw (c.place_length.ensures, c.segment.ensures)
+    (place_in (segment_size c.args.form) c.args.base.0 c.args.len _ (omega (arith, wide_of c.args.form, two_of c.args.form)) p.form_bound.0 p.form_bound.1 p.form_bound.2 p.le_len.1)
+
+pub returns : goal.returns
+unfolding heap_vacant
+returns c = c.zero_at.ensures ∙ rw (c.place_length.ensures, c.segment.ensures)
