@@ -89,6 +89,8 @@ module _ (G : ℕ) (f : ℕ → Bool) (from N : ℕ) where
 
   pub listed-looked : (k n i : ℕ) (g : Gap) → Among g (take k (listed n i)) → (j : ℕ) × Looked k i n g j
   unfolding listed
+  listed-looked zero n i g a = elim a [ ]
+  listed-looked (suc k) zero i g a = elim a [ ]
   listed-looked (suc k) (suc n) i g a = go (test (begins_run f i)) a (listed-looked k n (suc i) g) (listed-looked (suc k) n (suc i) g)
     where
       further : (k' : ℕ) → k' + runs_below f (suc i) ≤ suc k + runs_below f i → (j : ℕ) × Looked k' (suc i) n g j → (j : ℕ) × Looked (suc k) i (suc n) g j

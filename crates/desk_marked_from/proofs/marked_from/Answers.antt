@@ -11,6 +11,7 @@ use Rattle.plain.proofs.MarkedLaws.{marked_next}
 use Rattle.heap_layout.specs.Ops.{heap_ops}
 use Rattle.heap_laws.proofs.HalfLaws.{Ahead, half-ahead, ahead-on}
 use Rattle.desk_marked_from.proofs.marked_from.Goals as goal
+use Rattle.desk_marked_from.proofs.marked_from.Goals.{then-at-eq0, else-at-eq0}
 use Rattle.desk_marked_from.proofs.marked_from.Lts as place
 use Rattle.desk_marked_from.proofs.marked_from.Reads as reads
 use Rattle.desk_marked_from.proofs.marked_from.Tie as tie
@@ -20,11 +21,11 @@ abbrev After-four_marked : Type 0
 After-four_marked = place.After-four_marked tie.the-claims reads.Pre reads.Post goal.the-invariant-loop-at goal.the-decreases-loop-at tie.handed_clauses
 
 pub overflow_sub-next : goal.overflow_sub-next
-overflow_sub-next c = ⊎_elim (λ w. omega (arith, w.1)) (λ w. omega (arith, w.1)) c.if-at-eq0.branch
+overflow_sub-next c = elim c.if-at-eq0.branch [ then-at-eq0 w ↦ omega (arith, w.here-is) | else-at-eq0 w ↦ omega (arith, w.here-is) ]
 
 pub loop-at-init : goal.loop-at-init
 loop-at-init c =
-    (c.requires.start_value.0, c.requires.start_value.1, half-ahead c.args.start.0 c.if-at-eq0.here c.requires.start_value.0 (⊎_elim (λ w. inl (w.0.taken, w.1)) (λ w. inr (w.0.left, w.1)) c.if-at-eq0.branch), refl)
+    (c.requires.start_value.0, c.requires.start_value.1, half-ahead c.args.start.0 c.if-at-eq0.here c.requires.start_value.0 (elim c.if-at-eq0.branch [ then-at-eq0 w ↦ inl (w.if-at-eq0.true, w.here-is) | else-at-eq0 w ↦ inr (w.if-at-eq0.false, w.here-is) ]), refl)
 
 ends-in : (p e size : ℕ) → p + 32 ≤ e → e ≤ size → p + 32 ≤ size
 ends-in p e size h k = omega arith
@@ -32,7 +33,7 @@ ends-in p e size h k = omega arith
 pub four_marked-requires : goal.four_marked-requires
 four_marked-requires c =
     let p = c.requires in
-    ((c.loop-at.invariant.0, ends-in _ _ _ c.loop-at-test.true p.start_value.2, p.heap_len.0, p.heap_len.1), c.loop-at.invariant.2)
+    record { at_value = (c.loop-at.invariant.0, ends-in _ _ _ c.loop-at-test.true p.start_value.2, p.heap_len.0, p.heap_len.1); own_value = c.loop-at.invariant.2 }
 
 -- four whole halves, and the rest
 step : (c : After-four_marked)

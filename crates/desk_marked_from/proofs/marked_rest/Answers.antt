@@ -15,6 +15,7 @@ use Rattle.heap_layout.specs.Ops.{heap_ops}
 use Rattle.heap_laws.proofs.MarkLaws.{marked-part, marked-first}
 use Rattle.heap_laws.proofs.HalfLaws.{Ahead, half-ahead, ahead-on, byte-in}
 use Rattle.desk_marked_from.proofs.marked_rest.Goals as goal
+use Rattle.desk_marked_from.proofs.marked_rest.Goals.{then-at-eq0, else-at-eq0}
 use Rattle.desk_marked_from.proofs.marked_rest.Lts as place
 use Rattle.desk_marked_from.proofs.marked_rest.Reads as reads
 use Rattle.desk_marked_from.proofs.marked_rest.Tie as tie
@@ -27,11 +28,11 @@ abbrev After-bits_set2 : Type 0
 After-bits_set2 = place.After-bits_set2 tie.the-claims reads.Pre reads.Post goal.the-invariant-loop-at goal.the-decreases-loop-at tie.handed_clauses
 
 pub overflow_sub-next : goal.overflow_sub-next
-overflow_sub-next c = ⊎_elim (λ w. omega (arith, w.1)) (λ w. omega (arith, w.1)) c.if-at-eq0.branch
+overflow_sub-next c = elim c.if-at-eq0.branch [ then-at-eq0 w ↦ omega (arith, w.own-is) | else-at-eq0 w ↦ omega (arith, w.own-is) ]
 
 pub loop-at-init : goal.loop-at-init
 loop-at-init c =
-    (c.requires.start_value.0, c.requires.start_value.1, half-ahead c.args.start.0 c.if-at-eq0.own c.requires.start_value.0 (⊎_elim (λ w. inl (w.0.taken, w.1)) (λ w. inr (w.0.left, w.1)) c.if-at-eq0.branch), refl)
+    (c.requires.start_value.0, c.requires.start_value.1, half-ahead c.args.start.0 c.if-at-eq0.own c.requires.start_value.0 (elim c.if-at-eq0.branch [ then-at-eq0 w ↦ inl (w.if-at-eq0.true, w.own-is) | else-at-eq0 w ↦ inr (w.if-at-eq0.false, w.own-is) ]), refl)
 
 -- the byte of a position before the end is in the shadow
 fits : (c : At-loop) (q k : ℕ) → let a = c.args in q < a.end.0 → k ≡ bits_place 8 16 q → k < length a.heap.now

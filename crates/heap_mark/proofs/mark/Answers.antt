@@ -43,7 +43,7 @@ pub mark_from-requires : goal.mark_from-requires
 mark_from-requires c =
     let a = c.args in
     let l = length-set a.heap.now (a.p.0 / 8 * 8 + 4) c.set_bits-2.new.byte in
-    ((omega arith, omega arith, omega arith), (omega arith, omega arith))
+    record { start_value = (omega arith, omega arith, omega arith); heap_len = (omega arith, omega arith) }
 
 pub shape_of-heap : goal.shape_of-heap
 shape_of-heap c = c.heap-1.given ∙ simp length-set

@@ -44,7 +44,7 @@ returns-then-not-holds c =
     let t = stands_at a.primary.now a.secondary.now a.q.0 a.len a.i a.literal in
     run_is a.primary.now a.q.0 l.n l.written _
     (rw (← c.before.before.before.before.before.before.before.before.least-end.ensures) (eights-stop t l.n _ l.invariant.0 l.invariant.2 c.before.before.before.before.loop-n-test.true
-    (run-broken t l.n 8 c.before.holds.result (seen c.before) (not-true _ c.if-not-holds.true-raw)))) l.invariant.3
+    (run-broken t l.n 8 c.before.holds.result (seen c.before.before) (not-true _ c.if-not-holds.true-raw)))) l.invariant.3
 
 pub overflow_add-written : goal.overflow_add-written
 overflow_add-written c =
@@ -57,7 +57,7 @@ loop-n-preserved c =
     let a = c.before.before.before.before.before.before.before.before.before.before.before.before.args in
     let l = c.before.before.before.before.before.before.loop-n in
     let t = stands_at a.primary.now a.secondary.now a.q.0 a.len a.i a.literal in
-    let f : run_of t l.n 8 ≡ 8 = run-full t l.n 8 c.before.before.holds.result (seen c.before.before) (not-false _ c.before.if-not-holds.false-raw) in
+    let f : run_of t l.n 8 ≡ 8 = run-full t l.n 8 c.before.before.holds.result (seen c.before.before.before) (not-false _ c.before.if-not-holds.false-raw) in
     let o : c.odds-written.result ≡ odd_bytes (at a.primary.now) (a.q.0 + l.n) 8 =
     c.odds-written.ensures.0
     ∙ word-odds a.primary.now a.secondary.now a.q.0 a.len a.i a.literal l.n c.before.before.before.before.eight_at-x.result c.before.before.before.eight_at.result

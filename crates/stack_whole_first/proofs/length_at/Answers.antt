@@ -26,28 +26,28 @@ unfolding whole_length whole_from
 returns-then-primary-q c =
     let s = c.before.before.before in
     let e = c.before.if-code-eq7.true in
-    rw (eq-eqb (code s) (code_of 4 0) (e ∙ sym code-4), lt-leb (s.args.p.0 + 4) (length s.args.primary.now) (omega arith), ne_eqb (code s) (code_of 8 0) (λ z. omega (arith, code-8)))
+    rw (eq-eqb (code s.before) (code_of 4 0) (e ∙ sym code-4), lt-leb (s.args.p.0 + 4) (length s.args.primary.now) (omega arith), ne_eqb (code s.before) (code_of 8 0) (λ z. omega (arith, code-8)))
 
 pub returns-then-code-eq7 : goal.returns-then-code-eq7
 unfolding whole_length whole_from
 returns-then-code-eq7 c =
     let s = c.before.before.before in
-    rw (eq-eqb (code s) (code_of 4 0) (c.before.if-code-eq7.true ∙ sym code-4), le-leb (s.args.p.0 + 4) (length s.args.primary.now) (omega arith))
+    rw (eq-eqb (code s.before) (code_of 4 0) (c.before.if-code-eq7.true ∙ sym code-4), le-leb (s.args.p.0 + 4) (length s.args.primary.now) (omega arith))
 
 pub returns-then-primary-q-2 : goal.returns-then-primary-q-2
 unfolding whole_length whole_from
 returns-then-primary-q-2 c =
     let s = c.before.before.before.before in
-    rw (ne_eqb (code s) (code_of 4 0) (λ z. c.before.before.if-code-eq7.false (z ∙ code-4)), eq-eqb (code s) (code_of 8 0) (c.before.if-code-eq29.true ∙ sym code-8), lt-leb (s.args.p.0 + 8) (length s.args.primary.now) (omega arith))
+    rw (ne_eqb (code s.before) (code_of 4 0) (λ z. c.before.before.if-code-eq7.false (z ∙ code-4)), eq-eqb (code s.before) (code_of 8 0) (c.before.if-code-eq29.true ∙ sym code-8), lt-leb (s.args.p.0 + 8) (length s.args.primary.now) (omega arith))
 
 pub returns-then-code-eq29 : goal.returns-then-code-eq29
 unfolding whole_length whole_from
 returns-then-code-eq29 c =
     let s = c.before.before.before.before in
-    rw (ne_eqb (code s) (code_of 4 0) (λ z. c.before.before.if-code-eq7.false (z ∙ code-4)), eq-eqb (code s) (code_of 8 0) (c.before.if-code-eq29.true ∙ sym code-8), le-leb (s.args.p.0 + 8) (length s.args.primary.now) (omega arith))
+    rw (ne_eqb (code s.before) (code_of 4 0) (λ z. c.before.before.if-code-eq7.false (z ∙ code-4)), eq-eqb (code s.before) (code_of 8 0) (c.before.if-code-eq29.true ∙ sym code-8), le-leb (s.args.p.0 + 8) (length s.args.primary.now) (omega arith))
 
 pub returns : goal.returns
 unfolding whole_length whole_from
 returns c =
     let s = c.before.before.before in
-    rw (ne_eqb (code s) (code_of 4 0) (λ z. c.before.if-code-eq7.false (z ∙ code-4)), ne_eqb (code s) (code_of 8 0) (λ z. c.if-code-eq29.false (z ∙ code-8)))
+    rw (ne_eqb (code s.before) (code_of 4 0) (λ z. c.before.if-code-eq7.false (z ∙ code-4)), ne_eqb (code s.before) (code_of 8 0) (λ z. c.if-code-eq29.false (z ∙ code-8)))
