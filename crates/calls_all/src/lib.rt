@@ -7,10 +7,13 @@ ghost use Rattle.calls_turn.specs.Point.{point_of};
 
 use calls_run::{Run, begun};
 use calls_turn::turn;
+use std::io::{Stdin, Stdout};
 
 // All records of the input, in buffers that may hold anything, and then what waits is written out. The run as its last turn
 // left it. No input has so many records as there may be turns.
 pub fn all(
+    input: Stdin,
+    output: Stdout,
     heap: &mut [u8; 32768],
     primary: &mut [u8; 16384],
     secondary: &mut [u8; 16384],
@@ -27,8 +30,8 @@ pub fn all(
         if !run.on {
             break;
         }
-        run = turn(heap, primary, secondary, bytes, lines, run);
+        run = turn(input, output, heap, primary, secondary, bytes, lines, run);
     }
-    calls_output::flush(lines, run.pending);
+    calls_output::flush(output, lines, run.pending);
     run
 }

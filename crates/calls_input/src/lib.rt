@@ -6,17 +6,19 @@ ghost use Rattle.std.proofs.Math.Seq.{paste};
 ghost use Rattle.calls_window.specs.Window.{Held, Refilled};
 
 use calls_window::Window;
-use libc::STDIN_FILENO;
+use std::io::{Read, Stdin};
 
 // The longest record.
 const LONGEST: usize = 20;
 
 // One read; 0 where the input has ended or cannot be read.
-fn read_some(room: &mut [u8]) -> usize
+fn read_some(mut input: Stdin, room: &mut [u8]) -> usize
     ensures { result ≤ length room.old }
 {
-    let got = libc::read(STDIN_FILENO, room);
-    io::count(got, room)
+    match input.read(room) {
+        Ok(got) => got,
+        Err(_) => 0,
+    }
 }
 
 // Moves what is left to the buffer's start.
@@ -30,7 +32,7 @@ fn settle(buffer: &mut [u8], from: usize, end: usize)
 }
 
 // Reads on behind what is left, until a record is whole or the input ends. Each read brings a byte at least.
-fn read_on(buffer: &mut [u8], w: Window) -> Window
+fn read_on(input: Stdin, buffer: &mut [u8], w: Window) -> Window
     requires { Held w (length buffer.old) × (w.more ≡ true) }
     ensures { Refilled w result (length buffer.old) buffer.old buffer.new }
 {
@@ -43,7 +45,7 @@ fn read_on(buffer: &mut [u8], w: Window) -> Window
         if LONGEST <= filled {
             break;
         }
-        let got = read_some(&mut buffer[filled..]);
+        let got = read_some(input, &mut buffer[filled..]);
         if got == 0 {
             more = false;
             break;
@@ -58,13 +60,13 @@ fn read_on(buffer: &mut [u8], w: Window) -> Window
 }
 
 // The window with a whole record in it, where the input has one.
-pub fn refill(buffer: &mut [u8; 65536], w: Window) -> Window
+pub fn refill(input: Stdin, buffer: &mut [u8; 65536], w: Window) -> Window
     requires { Held w 65536 }
     ensures { Refilled w result 65536 buffer.old buffer.new }
 {
     if w.more {
         if w.end - w.at < LONGEST {
-            return read_on(buffer, w);
+            return read_on(input, buffer, w);
         }
     }
     w

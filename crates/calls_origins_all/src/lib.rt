@@ -7,10 +7,13 @@ ghost use Rattle.calls_origins_turn.specs.Point.{point_of};
 
 use calls_origins_turn::{OriginsRun, turn};
 use calls_run::begun;
+use std::io::{Stdin, Stdout};
 
 // All records of the input, in buffers that may hold anything, and then what waits is written out. The run and the counter as
 // the last turn left them. No input has so many records as there may be turns.
 pub fn all(
+    input: Stdin,
+    output: Stdout,
     heap: &mut [u8; 32768],
     primary: &mut [u8; 16384],
     secondary: &mut [u8; 16384],
@@ -32,6 +35,8 @@ pub fn all(
             break;
         }
         let next = turn(
+            input,
+            output,
             heap,
             primary,
             secondary,
@@ -45,6 +50,6 @@ pub fn all(
         run = next.run;
         counter = next.counter;
     }
-    calls_output::flush(lines, run.pending);
+    calls_output::flush(output, lines, run.pending);
     OriginsRun { run, counter }
 }

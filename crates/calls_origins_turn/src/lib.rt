@@ -8,6 +8,7 @@ use calls_origins_format::Decoded;
 use calls_origins_kinds::{kind_of, length_of};
 use calls_run::{Run, ended, told};
 use calls_window::unread;
+use std::io::{Stdin, Stdout};
 
 // What goes from record to record, beside shadows and cells.
 #[derive(Clone, Copy)]
@@ -18,6 +19,8 @@ pub struct OriginsRun {
 
 // One record, or the end of the input.
 pub fn turn(
+    input: Stdin,
+    output: Stdout,
     heap: &mut [u8; 32768],
     primary: &mut [u8; 16384],
     secondary: &mut [u8; 16384],
@@ -37,7 +40,7 @@ pub fn turn(
 {
     let map = run.map;
     let pending = run.pending;
-    let window = calls_input::refill(bytes, run.window);
+    let window = calls_input::refill(input, bytes, run.window);
     if window.at == window.end {
         return OriginsRun {
             run: ended(map, window, pending),
@@ -46,7 +49,7 @@ pub fn turn(
     }
     let Decoded::Call(request) = calls_origins_records::decode(unread(bytes, window)) else {
         return OriginsRun {
-            run: ended(map, window, calls_output::undecodable(lines, pending)),
+            run: ended(map, window, calls_output::undecodable(output, lines, pending)),
             counter,
         };
     };
@@ -63,7 +66,7 @@ pub fn turn(
     let kind = kind_of(request);
     let length = length_of(request);
     OriginsRun {
-        run: told(lines, run, window, kind, length, served.map, served.answer),
+        run: told(output, lines, run, window, kind, length, served.map, served.answer),
         counter: served.counter,
     }
 }

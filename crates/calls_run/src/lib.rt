@@ -11,6 +11,7 @@ use calls_output::Pending;
 use calls_window::Window;
 use map::Map;
 use monitor_base::Answer;
+use std::io::Stdout;
 
 // What goes from record to record, beside the shadows: the map, the two buffers' state, and whether the run goes on.
 #[derive(Clone, Copy)]
@@ -60,6 +61,7 @@ pub fn ended(map: Map, window: Window, pending: Pending) -> Run
 // The run after a record of this kind and length that was served: under the map that holds then, its line waits,
 // and the window stands past it.
 pub fn told(
+    output: Stdout,
     lines: &mut [u8; 65536],
     run: Run,
     window: Window,
@@ -72,7 +74,7 @@ pub fn told(
     ensures { Told run window kind length under answer result lines.old lines.new }
 {
     let pending = run.pending;
-    let added = calls_output::line(lines, pending, kind, answer);
+    let added = calls_output::line(output, lines, pending, kind, answer);
     Run {
         map: under,
         window: calls_window::past(window, length),

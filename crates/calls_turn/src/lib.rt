@@ -7,9 +7,12 @@ ghost use Rattle.calls_turn.specs.Point.{point_of};
 use calls_format::Decoded;
 use calls_run::{Run, ended, told};
 use calls_window::unread;
+use std::io::{Stdin, Stdout};
 
 // One record, or the end of the input.
 pub fn turn(
+    input: Stdin,
+    output: Stdout,
     heap: &mut [u8; 32768],
     primary: &mut [u8; 16384],
     secondary: &mut [u8; 16384],
@@ -24,15 +27,15 @@ pub fn turn(
 {
     let map = run.map;
     let pending = run.pending;
-    let window = calls_input::refill(bytes, run.window);
+    let window = calls_input::refill(input, bytes, run.window);
     if window.at == window.end {
         return ended(map, window, pending);
     }
     let Decoded::Call(request) = calls_records::decode(unread(bytes, window)) else {
-        return ended(map, window, calls_output::undecodable(lines, pending));
+        return ended(map, window, calls_output::undecodable(output, lines, pending));
     };
     let served = calls_serve::serve(map, heap, primary, secondary, request);
     let kind = calls_kinds::kind_of(request);
     let length = calls_kinds::length_of(request);
-    told(lines, run, window, kind, length, served.map, served.answer)
+    told(output, lines, run, window, kind, length, served.map, served.answer)
 }

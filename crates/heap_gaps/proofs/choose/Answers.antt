@@ -17,8 +17,11 @@ loop-p-init c = kept-start _ _ _ (omega arith)
 pub returns-then-g-budget : goal.returns-then-g-budget
 returns-then-g-budget c =
     let a = c.args in
-    let k = c.loop-p.invariant in record { result_value = kept_full a.heap.now c.needed-need.result a.budget c.loop-p.g c.loop-p.p k c.if-g-budget.true
-          ∙ ap (λ (n : ℕ). choice 4 8 n a.budget a.heap.now) c.needed-need.ensures; bytes_in_bounds = omega (arith, k.before, k.inside) }
+    let k = c.loop-p.invariant in record {
+      result_value = kept_full a.heap.now c.needed-need.result a.budget c.loop-p.g c.loop-p.p k c.if-g-budget.true
+          ∙ ap (λ (n : ℕ). choice 4 8 n a.budget a.heap.now) c.needed-need.ensures;
+      bytes_in_bounds = omega (arith, k.before, k.inside);
+    }
 
 pub turn-g-requires : goal.turn-g-requires
 turn-g-requires c =

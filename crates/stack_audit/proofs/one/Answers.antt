@@ -16,14 +16,13 @@ returns-then-not-stands c =
     turned-bad c.args.primary.now c.args.secondary.now c.args.q.0 c.args.w c.requires.0 c.args.k c.args.literal c.requires.1 c.requires.2 _ c.stands.ensures (not-true _ c.if-not-stands.true-raw)
 
 pub after-requires : goal.after-requires
-after-requires c =
-    (
-      in_block c.args.primary.now c.args.secondary.now c.args.q.0 c.args.w c.requires.0 c.args.k c.args.literal c.requires.1 c.requires.2,
-      omega arith,
-      omega arith,
-      omega arith,
-      mask_lt (at c.args.primary.now c.args.q.0) 1,
-    )
+after-requires c = (
+  in_block c.args.primary.now c.args.secondary.now c.args.q.0 c.args.w c.requires.0 c.args.k c.args.literal c.requires.1 c.requires.2,
+  omega arith,
+  omega arith,
+  omega arith,
+  mask_lt (at c.args.primary.now c.args.q.0) 1,
+)
 
 pub returns : goal.returns
 returns c =

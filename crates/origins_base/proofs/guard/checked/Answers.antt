@@ -9,19 +9,19 @@ use Rattle.origins_base.proofs.GuardLaws.{early, early-first, early-last}
 pub returns-then-k-ne0 : goal.returns-then-k-ne0
 returns-then-k-ne0 c =
     let a = c.args in
-    early-first a.map a.heap a.primary a.secondary a.heap-cells a.stack-cells c.checked-k.result
+    early-first a.map a.heap a.primary a.secondary a.heap_cells a.stack_cells c.checked-k.result
     c.checked-k.ensures c.if-k-ne0.true
 
 pub returns-then-cells_fit : goal.returns-then-cells_fit
 returns-then-cells_fit c =
     let a = c.args in
-    sym (early-last a.map a.heap a.primary a.secondary a.heap-cells a.stack-cells c.checked-k.result
+    sym (early-last a.map a.heap a.primary a.secondary a.heap_cells a.stack_cells c.checked-k.result
     c.checked-k.ensures c.if-k-ne0.false
     ∙ rw (← c.cells_fit.ensures, c.if-cells_fit.true))
 
 pub returns : goal.returns
 returns c =
     let a = c.args in
-    sym (early-last a.map a.heap a.primary a.secondary a.heap-cells a.stack-cells c.checked-k.result
+    sym (early-last a.map a.heap a.primary a.secondary a.heap_cells a.stack_cells c.checked-k.result
     c.checked-k.ensures c.if-k-ne0.false
     ∙ rw (← c.cells_fit.ensures, c.if-cells_fit.false))

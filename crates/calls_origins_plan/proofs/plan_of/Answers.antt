@@ -1,0 +1,15 @@
+-- `calls_origins_plan::plan_of` meets its contract. Assumes nothing.
+use mathlib.Core.Path.{ap, ◌∙◌}
+use Rattle.calls_format.specs.Decoded as plain
+use Rattle.calls_origins_plan.specs.Plan.{lifted}
+use Rattle.calls_origins_plan.proofs.PlanLaws.{planned-plain}
+use borrow.Author.Rules.{rules}
+use Rattle.calls_origins_plan.proofs.plan_of.Goals as goal
+
+pub returns-in-Plain : goal.returns-in-Plain
+returns-in-Plain c =
+    let q = c.request-1.given in
+    rw q.1 (c.plan_like.ensures ∙ ap lifted c.plan_of.ensures ∙ planned-plain _ (plain.requested q.0.0))
+
+pub returns-in-Pointer : goal.returns-in-Pointer
+returns-in-Pointer c = rw c.in-Pointer.is

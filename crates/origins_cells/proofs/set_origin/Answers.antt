@@ -1,0 +1,44 @@
+-- `origins_cells::set_origin` meets its contract: one arm for each area. Assumes nothing.
+use mathlib.Core.Path.{◌≡◌, ap, subst}
+use mathlib.Core.List.{List}
+use Prim.Native.Nat.{ℕ}
+use Rattle.cells_layout.specs.Cells.{Cells}
+use Rattle.map.specs.declared.Located.{Located}
+use Rattle.origins_laws.specs.CellsAt.{CellAt}
+use borrow.Author.Rules.{rules}
+use Rattle.origins_cells.proofs.set_origin.Goals as goal
+use Rattle.origins_cells.proofs.set_origin.Lts as place
+use Rattle.origins_cells.proofs.set_origin.Reads as reads
+use Rattle.origins_cells.proofs.set_origin.Tie as tie
+
+-- steps of the code, by name
+abbrev Start : Type 0
+Start = place.Start tie.the-claims reads.Pre reads.Post
+
+abbrev After-slice_known2 : Type 0
+After-slice_known2 = place.After-slice_known2 tie.the-claims reads.Pre reads.Post
+
+abbrev cells : Start → Cells
+cells c = (c.args.heap_cells.now, c.args.stack_cells.now)
+
+has_cells : (c : After-slice_known2) (x : Located) → c.args.l ≡ x → CellAt x (cells c.before.before)
+has_cells c x q = subst (λ x. CellAt x (cells c.before.before)) q c.requires
+
+pub store_origin-requires : goal.store_origin-requires
+store_origin-requires c =
+    has_cells c.before.before.before _ c.in-Heap.is
+
+pub store_origin-requires-in-Stack : goal.store_origin-requires-in-Stack
+store_origin-requires-in-Stack c =
+    has_cells c.before.before.before _ c.in-Stack.is
+
+pub returns-in-Heap : goal.returns-in-Heap
+returns-in-Heap c =
+    rw c.in-Heap.is (ap (λ (h : List ℕ). (h, c.args.stack_cells.now)) c.store_origin.ensures)
+
+pub returns-in-Stack : goal.returns-in-Stack
+returns-in-Stack c =
+    rw c.in-Stack.is (ap (λ (h : List ℕ). (c.args.heap_cells.now, h)) c.store_origin-in-Stack.ensures)
+
+pub returns-in-Outside : goal.returns-in-Outside
+returns-in-Outside c = rw c.in-Outside.is
