@@ -23,7 +23,7 @@ while [ $# -gt 0 ]; do
 done
 
 for crate in monitor_c origins_c desk_c; do
-  rt staticlib "$crate" > "$out/staticlib.log" 2>&1 || { cat "$out/staticlib.log"; exit 1; }
+  tools/build.sh "$crate" > "$out/staticlib.log" 2>&1 || { cat "$out/staticlib.log"; exit 1; }
 done
 bench/eacsl/build.sh "$out"
 unset BENCH_BEFORE

@@ -5,7 +5,7 @@ set -euo pipefail
 cd "$(dirname "$0")"
 echo "proving and building the libraries; the first time, with every crate below them, this takes minutes" >&2
 for crate in monitor_c origins_c desk_c; do
-    if ! log=$(rt staticlib "$crate" 2>&1); then
+    if ! log=$(tools/build.sh "$crate" 2>&1); then
         printf '%s\n' "$log" >&2
         echo "build-c.sh: the library $crate was not built" >&2
         exit 1

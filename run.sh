@@ -52,9 +52,9 @@ if [ "$form" = origins ]; then
 fi
 
 [ -x "$here/target/bin/$program" ] || printf 'Proving and building the calls program; the first time takes some minutes.\n' >&2
-(cd "$here" && rt check "$program") >"$room/check" 2>&1 || {
+"$here/tools/build.sh" "$program" >"$room/check" 2>&1 || {
     cat "$room/check" >&2
-    fail "rt check $program failed"
+    fail "building $program failed"
 }
 
 "$here/target/bin/$program" <"$room/calls" >"$room/lines"

@@ -8,9 +8,12 @@ log=$(mktemp)
 trap 'rm -f "$log"' EXIT
 cargo test --quiet --release --offline --manifest-path model/Cargo.toml
 rt ci 2>&1 | tee "$log"
-rt staticlib monitor_c
-rt staticlib origins_c
-rt staticlib desk_c
+# an edit that cannot be applied or read shows nothing, and rt ci passes all the same
+if grep -Eq '^rt: ok.*, [1-9][0-9]* bad' "$log"; then
+    echo "test.sh: a must-fail edit shows nothing" >&2
+    exit 1
+fi
+tools/build.sh monitor_c origins_c desk_c calls calls_origins
 examples/test-c.sh
 cargo test --quiet --release --offline --manifest-path linked/Cargo.toml
 cargo test --quiet --release --offline --manifest-path linked_origins/Cargo.toml

@@ -15,7 +15,7 @@ if [ ! -f "$archive" ]; then
   if [ ! -f "$archive" ]; then
     mkdir -p "$folder"
     git archive "$commit" | tar -x -C "$folder"
-    (cd "$folder" && rt staticlib monitor_c)
+    (cd "$folder" && tools/build.sh monitor_c)
   fi
 fi
 this="commit $(git rev-parse --short HEAD)"

@@ -1,4 +1,4 @@
-//! Links the archives that `rt staticlib` writes of `origins_c`, of `desk_c` and of `monitor_c`; or, where BENCH_BEFORE names their folder, a copy
+//! Links the archives that `tools/build.sh` writes of `origins_c`, of `desk_c` and of `monitor_c`; or, where BENCH_BEFORE names their folder, a copy
 //! of the last and beside it an earlier build whose symbols begin with `before_` (before.sh). And place.c, compiled by the C compiler.
 
 use std::path::{Path, PathBuf};

@@ -60,7 +60,7 @@ test_header() {
     local count source=crates/${crate[$1]}/src/lib.rt
     exported "$1" >"$out/exported-$1"
     declared "$1" >"$out/declared-$1"
-    count=$(grep -c '#\[no_mangle\]' "$source")
+    count=$(grep -c '#\[unsafe(no_mangle)\]' "$source")
     [ "$(wc -l <"$out/exported-$1")" -eq "$count" ] ||
         fail "$source has $count exported functions, but not all could be read: $out/exported-$1"
     same "$out/exported-$1" "$out/declared-$1" "include/${header[$1]} against $source"

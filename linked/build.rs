@@ -1,4 +1,4 @@
-//! Links the archive that `rt staticlib monitor_c` writes.
+//! Links the archive that `tools/build.sh monitor_c` writes.
 
 use std::path::Path;
 

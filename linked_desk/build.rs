@@ -1,4 +1,4 @@
-//! Links the archive that `rt staticlib desk_c` writes.
+//! Links the archive that `tools/build.sh desk_c` writes.
 
 use std::path::Path;
 

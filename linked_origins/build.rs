@@ -1,4 +1,4 @@
-//! Links the archive that `rt staticlib origins_c` writes, once it is there; without it the tests say so.
+//! Links the archive that `tools/build.sh origins_c` writes, once it is there; without it the tests say so.
 
 use std::path::Path;
 

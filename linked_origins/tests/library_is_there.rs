@@ -5,6 +5,6 @@ fn the_library_is_there() {
     let there = cfg!(library);
     assert!(
         there,
-        "target/staticlib/liborigins_c.a is missing: `rt staticlib origins_c` builds it"
+        "target/staticlib/liborigins_c.a is missing: `tools/build.sh origins_c` builds it"
     );
 }

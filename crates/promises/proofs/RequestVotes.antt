@@ -57,6 +57,7 @@ has-among here = inl refl
 has-among (there h) = inr (has-among h)
 
 among-has : (b : Block) (bs : List Block) → Among b bs → Has b bs
+among-has b [] x' = elim x' [ ]
 among-has b (c ∷ cs) (inl e) = rw e here
 among-has b (c ∷ cs) (inr a) = there (among-has b cs a)
 

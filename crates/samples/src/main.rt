@@ -4,82 +4,85 @@
 use map::Form;
 use samples_input::Line;
 use samples_output::{malformed, write};
+use std::io::Stdout;
 
 // A sample of the desk, or a line that is no sample: the desk has no calls program.
-fn answer_desk(line: &[u8]) {
+fn answer_desk(output: Stdout, line: &[u8]) {
     let call = samples_text::after_word(line, 0, b"on desk:");
     if 0 < call {
-        if !samples_plain::calls::answer(Form::Desk, line, call) {
-            malformed();
+        if !samples_plain::calls::answer(output, Form::Desk, line, call) {
+            malformed(output);
         }
         return;
     }
-    malformed();
+    malformed(output);
 }
 
 // A sample of the form with origins, or of the desk.
-fn answer_origins(line: &[u8]) {
+fn answer_origins(output: Stdout, line: &[u8]) {
     let call = samples_text::after_word(line, 0, b"on origins:");
     if 0 < call {
-        if !samples_origins::calls::answer(line, call) {
-            malformed();
+        if !samples_origins::calls::answer(output, line, call) {
+            malformed(output);
         }
         return;
     }
     let records = samples_text::after_word(line, 0, b"run origins:");
     if 0 < records {
-        samples_origins::runs::answer(line, records);
+        samples_origins::runs::answer(output, line, records);
         return;
     }
-    answer_desk(line);
+    answer_desk(output, line);
 }
 
 // A sample is answered, a remark or an empty line is left alone, and any other line gets a question mark.
-fn answer(line: &[u8]) {
-    write(line);
+fn answer(output: Stdout, line: &[u8]) {
+    write(output, line);
     if samples_text::remark(line) {
         return;
     }
     let call = samples_text::after_word(line, 0, b"on:");
     if 0 < call {
-        if !samples_plain::calls::answer(Form::Player, line, call) {
-            malformed();
+        if !samples_plain::calls::answer(output, Form::Player, line, call) {
+            malformed(output);
         }
         return;
     }
     let records = samples_text::after_word(line, 0, b"run:");
     if 0 < records {
-        samples_plain::runs::answer(line, records);
+        samples_plain::runs::answer(output, line, records);
         return;
     }
-    answer_origins(line);
+    answer_origins(output, line);
 }
 
-fn answer_first(buffer: &[u8], n: usize) {
+fn answer_first(output: Stdout, buffer: &[u8], n: usize) {
     if n <= buffer.len() {
-        answer(&buffer[0..n]);
+        answer(output, &buffer[0..n]);
     }
 }
 
-fn answer_line(buffer: &[u8; 4096], line: Line) {
+fn answer_line(output: Stdout, buffer: &[u8; 4096], line: Line) {
     match line {
-        Line::Whole(n) => answer_first(buffer, n),
+        Line::Whole(n) => answer_first(output, buffer, n),
         Line::Long => {
-            write(buffer);
-            malformed();
+            write(output, buffer);
+            malformed(output);
         }
         Line::End => {}
     }
-    write(b"\n");
+    write(output, b"\n");
 }
 
-fn main() {
+fn main(rt: HostRuntime) {
+    let input = rt.stdin();
+    let output = rt.stdout();
     let mut buffer = [0u8; 4096];
     for _ in 0..1000000000u32 {
-        let line = samples_input::read(&mut buffer);
+        let line = samples_input::read(input, &mut buffer);
         if let Line::End = line {
             return;
         }
-        answer_line(&buffer, line);
+        answer_line(output, &buffer, line);
     }
 }

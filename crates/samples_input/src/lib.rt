@@ -4,6 +4,8 @@
 ghost use Rattle.std.specs.Prelude.{◌≡◌, length};
 ghost use Rattle.samples_input.specs.Input.{IsLine, last_line};
 
+use std::io::{Read, Stdin};
+
 #[derive(Clone, Copy)]
 pub enum Line {
     End,
@@ -19,17 +21,19 @@ pub enum Byte {
     Is(u8),
 }
 
-fn next_byte() -> Byte {
+// The end also where the input cannot be read.
+fn next_byte(mut input: Stdin) -> Byte {
     let mut one = [0u8; 1];
-    if io::read_full(0, &mut one) == 0 {
-        return Byte::End;
+    match input.read(&mut one) {
+        Ok(0) => Byte::End,
+        Ok(_) => Byte::Is(one[0]),
+        Err(_) => Byte::End,
     }
-    Byte::Is(one[0])
 }
 
-fn drop_rest() {
+fn drop_rest(input: Stdin) {
     for _ in 0..1000000000u32 {
-        let Byte::Is(b) = next_byte() else {
+        let Byte::Is(b) = next_byte(input) else {
             return;
         };
         if b == b'\n' {
@@ -45,13 +49,13 @@ fn last(n: usize) -> Line
     if n == 0 { Line::End } else { Line::Whole(n) }
 }
 
-fn read_into(buffer: &mut [u8]) -> Line
+fn read_into(input: Stdin, buffer: &mut [u8]) -> Line
     requires { length buffer.old ≡ 4096 }
     ensures { IsLine 4096 buffer.new result }
 {
     let mut n = 0;
     while n < buffer.len() {
-        let Byte::Is(b) = next_byte() else {
+        let Byte::Is(b) = next_byte(input) else {
             return last(n);
         };
         if b == b'\n' {
@@ -60,13 +64,13 @@ fn read_into(buffer: &mut [u8]) -> Line
         buffer[n] = b;
         n += 1;
     }
-    drop_rest();
+    drop_rest(input);
     Line::Long
 }
 
 // The next line, of at most 4,095 bytes.
-pub fn read(buffer: &mut [u8; 4096]) -> Line
+pub fn read(input: Stdin, buffer: &mut [u8; 4096]) -> Line
     ensures { IsLine 4096 buffer.new result }
 {
-    read_into(buffer)
+    read_into(input, buffer)
 }

@@ -11,6 +11,7 @@ use origins_base::{Counted, OriginsCall};
 use samples_output::change;
 use samples_state::figures::Figures;
 use samples_text::Place;
+use std::io::Stdout;
 
 // The call on the first bytes of the buffers, under the map of all samples.
 fn step_on(
@@ -64,6 +65,7 @@ fn step(
 
 // The answer, or a question mark where the call is malformed; the counter after it.
 fn answer_call(
+    output: Stdout,
     line: &[u8],
     at: usize,
     heap: &mut [u8; 136],
@@ -76,24 +78,24 @@ fn answer_call(
     requires { Fit f }
 {
     let Asked::Call(kind, call) = named::call_at(line, at) else {
-        samples_output::malformed();
+        samples_output::malformed(output);
         return f.counter;
     };
     let told = step(call, heap, primary, secondary, heap_cells, stack_cells, f);
     let answer = told.answer;
-    samples_output::write_answer(kind, answer);
+    samples_output::write_answer(output, kind, answer);
     told.counter
 }
 
-fn change_in(name: &[u8], old: &[u8; 136], new: &[u8; 136], told: bool) -> bool
+fn change_in(output: Stdout, name: &[u8], old: &[u8; 136], new: &[u8; 136], told: bool) -> bool
     ensures { result ≡ (differ old.now new.now || told) }
 {
-    change(name, old, new, told)
+    change(output, name, old, new, told)
 }
 
 // The answer, each shadow that the call changed, and the counter if it did; a question mark where the call is malformed.
 // Nothing, and false, where the given state is.
-pub fn answer(line: &[u8], at: usize) -> bool
+pub fn answer(output: Stdout, line: &[u8], at: usize) -> bool
     ensures { result ≡ is_given (give_all 4096 line.now at
         (state first (five (replicate 136 0) (replicate 136 0) (replicate 136 0) (replicate 136 0) (replicate 136 0)))) }
 {
@@ -122,6 +124,7 @@ pub fn answer(line: &[u8], at: usize) -> bool
     let heap_cells_were = heap_cells;
     let stack_cells_were = stack_cells;
     let counter = answer_call(
+        output,
         line,
         colon,
         &mut heap,
@@ -131,11 +134,17 @@ pub fn answer(line: &[u8], at: usize) -> bool
         &mut stack_cells,
         figures,
     );
-    let mut told = change_in(b" heap@", &heap_was, &heap, false);
-    told = change_in(b" pri@", &primary_was, &primary, told);
-    told = change_in(b" sec@", &secondary_was, &secondary, told);
-    told = change_in(b" heapcells@", &heap_cells_were, &heap_cells, told);
-    told = change_in(b" stackcells@", &stack_cells_were, &stack_cells, told);
-    samples_output::counter_change(figures.counter, counter, told);
+    let mut told = change_in(output, b" heap@", &heap_was, &heap, false);
+    told = change_in(output, b" pri@", &primary_was, &primary, told);
+    told = change_in(output, b" sec@", &secondary_was, &secondary, told);
+    told = change_in(output, b" heapcells@", &heap_cells_were, &heap_cells, told);
+    told = change_in(
+        output,
+        b" stackcells@",
+        &stack_cells_were,
+        &stack_cells,
+        told,
+    );
+    samples_output::counter_change(output, figures.counter, counter, told);
     true
 }

@@ -3,6 +3,7 @@ use calls_origins_format::Decoded;
 use map::Map;
 use samples_output::{gap, write, write_line};
 use samples_records::Item;
+use std::io::Stdout;
 
 #[derive(Clone, Copy)]
 pub enum After {
@@ -12,6 +13,7 @@ pub enum After {
 
 // The line of a record; the map and the counter after it.
 fn answer_record(
+    output: Stdout,
     map: Map,
     heap: &mut [u8; 32768],
     primary: &mut [u8; 16384],
@@ -23,7 +25,7 @@ fn answer_record(
     n: usize,
 ) -> After {
     let Decoded::Call(request) = crate::decode(bytes, n) else {
-        write(b"9");
+        write(output, b"9");
         return After::Stop;
     };
     let served = calls_origins_serve::serve(
@@ -37,13 +39,13 @@ fn answer_record(
         request,
     );
     let answer = served.answer;
-    write_line(calls_origins_kinds::kind_of(request), answer);
+    write_line(output, calls_origins_kinds::kind_of(request), answer);
     let map = served.map;
     After::Kept(map, served.counter)
 }
 
 // Their lines, with semicolons between. Text that is no record ends them.
-pub fn answer(line: &[u8], at: usize) {
+pub fn answer(output: Stdout, line: &[u8], at: usize) {
     let mut heap = [0u8; 32768];
     let mut primary = [0u8; 16384];
     let mut secondary = [0u8; 16384];
@@ -58,18 +60,19 @@ pub fn answer(line: &[u8], at: usize) {
     let mut counter: u64 = 1;
     let mut place = at;
     let mut bytes = [0u8; 64];
-    write(b" =>");
+    write(output, b" =>");
     for i in 0..4096u32 {
         let item = samples_records::item_at(line, place, &mut bytes);
         if let Item::End = item {
             return;
         }
-        gap(i);
+        gap(output, i);
         let Item::Record(n, end) = item else {
-            write(b"?");
+            write(output, b"?");
             return;
         };
         let After::Kept(map_after, counter_after) = answer_record(
+            output,
             map,
             &mut heap,
             &mut primary,

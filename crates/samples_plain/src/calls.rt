@@ -9,6 +9,7 @@ use monitor::{Answer, Call, PlainCall, Update};
 use samples_output::{change, malformed, write_answer, write_room};
 use samples_records::Item;
 use samples_text::{Number, Place};
+use std::io::Stdout;
 
 // The call, under the map of all samples.
 fn step(
@@ -29,6 +30,7 @@ fn step(
 
 // No name is the map's, so that its record does not come up.
 fn answer_request(
+    output: Stdout,
     form: Form,
     request: Request,
     heap: &mut [u8; 64],
@@ -36,8 +38,9 @@ fn answer_request(
     secondary: &mut [u8; 32],
 ) {
     match request {
-        Request::NewMap(_) => malformed(),
+        Request::NewMap(_) => malformed(output),
         Request::Call(call) => write_answer(
+            output,
             calls_kinds::kind_of(request),
             step(form, PlainCall::Call(call), heap, primary, secondary),
         ),
@@ -46,6 +49,7 @@ fn answer_request(
 
 // A call that has a record.
 fn answer_named(
+    output: Stdout,
     form: Form,
     line: &[u8],
     at: usize,
@@ -55,18 +59,19 @@ fn answer_named(
 ) {
     let mut bytes = [0u8; 64];
     let Item::Record(n, _) = samples_records::call_at(line, at, &mut bytes) else {
-        malformed();
+        malformed(output);
         return;
     };
     let Decoded::Call(request) = crate::decode(&bytes, n) else {
-        malformed();
+        malformed(output);
         return;
     };
-    answer_request(form, request, heap, primary, secondary);
+    answer_request(output, form, request, heap, primary, secondary);
 }
 
 // Clear has no record of its own, and no number.
 fn answer_clear(
+    output: Stdout,
     form: Form,
     line: &[u8],
     at: usize,
@@ -77,11 +82,12 @@ fn answer_clear(
     if samples_text::at_end(line, at) {
         let clear = Call::Update(Update::Clear);
         write_answer(
+            output,
             0,
             step(form, PlainCall::Call(clear), heap, primary, secondary),
         );
     } else {
-        malformed();
+        malformed(output);
     }
 }
 
@@ -92,6 +98,7 @@ fn next_number(line: &[u8], at: usize) -> Number {
 
 // Place has no record either: a length and a budget end its line.
 fn answer_place(
+    output: Stdout,
     form: Form,
     line: &[u8],
     at: usize,
@@ -100,27 +107,31 @@ fn answer_place(
     secondary: &mut [u8; 32],
 ) {
     let Number::Is(length, after) = next_number(line, at) else {
-        malformed();
+        malformed(output);
         return;
     };
     let Number::Is(budget, end) = next_number(line, after) else {
-        malformed();
+        malformed(output);
         return;
     };
     if samples_text::at_end(line, end) {
-        write_room(step(
-            form,
-            PlainCall::Place(length, budget),
-            heap,
-            primary,
-            secondary,
-        ));
+        write_room(
+            output,
+            step(
+                form,
+                PlainCall::Place(length, budget),
+                heap,
+                primary,
+                secondary,
+            ),
+        );
     } else {
-        malformed();
+        malformed(output);
     }
 }
 
 fn answer_call(
+    output: Stdout,
     form: Form,
     line: &[u8],
     at: usize,
@@ -131,32 +142,32 @@ fn answer_call(
     let start = samples_text::skip_spaces(line, at);
     let clear = samples_text::after_name(line, start, b"clear");
     if start != clear {
-        answer_clear(form, line, clear, heap, primary, secondary);
+        answer_clear(output, form, line, clear, heap, primary, secondary);
         return;
     }
     let place = samples_text::after_name(line, start, b"place");
     if start != place {
-        answer_place(form, line, place, heap, primary, secondary);
+        answer_place(output, form, line, place, heap, primary, secondary);
         return;
     }
-    answer_named(form, line, start, heap, primary, secondary);
+    answer_named(output, form, line, start, heap, primary, secondary);
 }
 
-fn heap_change(old: &[u8; 64], new: &[u8; 64]) -> bool
+fn heap_change(output: Stdout, old: &[u8; 64], new: &[u8; 64]) -> bool
     ensures { result ≡ (differ old.now new.now || false) }
 {
-    change(b" heap@", old, new, false)
+    change(output, b" heap@", old, new, false)
 }
 
-fn stack_change(name: &[u8], old: &[u8; 32], new: &[u8; 32], told: bool) -> bool
+fn stack_change(output: Stdout, name: &[u8], old: &[u8; 32], new: &[u8; 32], told: bool) -> bool
     ensures { result ≡ (differ old.now new.now || told) }
 {
-    change(name, old, new, told)
+    change(output, name, old, new, told)
 }
 
 // The answer, and each shadow that the call changed, or a question mark where the call is malformed.
 // Nothing, and false, where the given bytes are.
-pub fn answer(form: Form, line: &[u8], at: usize) -> bool
+pub fn answer(output: Stdout, form: Form, line: &[u8], at: usize) -> bool
     ensures { result ≡ is_given (store_all 4096 line.now at (replicate 64 0) (replicate 32 0) (replicate 32 0)) }
 {
     let mut heap = [0u8; 64];
@@ -174,9 +185,17 @@ pub fn answer(form: Form, line: &[u8], at: usize) -> bool
     let heap_was = heap;
     let primary_was = primary;
     let secondary_was = secondary;
-    answer_call(form, line, colon, &mut heap, &mut primary, &mut secondary);
-    let in_heap = heap_change(&heap_was, &heap);
-    let in_primary = stack_change(b" pri@", &primary_was, &primary, in_heap);
-    stack_change(b" sec@", &secondary_was, &secondary, in_primary);
+    answer_call(
+        output,
+        form,
+        line,
+        colon,
+        &mut heap,
+        &mut primary,
+        &mut secondary,
+    );
+    let in_heap = heap_change(output, &heap_was, &heap);
+    let in_primary = stack_change(output, b" pri@", &primary_was, &primary, in_heap);
+    stack_change(output, b" sec@", &secondary_was, &secondary, in_primary);
     true
 }

@@ -8,8 +8,7 @@ use Rattle.calls_origins_plan.proofs.plan_of.Goals as goal
 
 pub returns-in-Plain : goal.returns-in-Plain
 returns-in-Plain c =
-    let q = c.request-1.given in
-    rw q.1 (c.plan_like.ensures ∙ ap lifted c.plan_of.ensures ∙ planned-plain _ (plain.requested q.0.0))
+    rw c.in-Plain.is (c.plan_like.ensures ∙ ap lifted c.plan_of.ensures ∙ planned-plain _ (plain.requested c.in-Plain.asked))
 
 pub returns-in-Pointer : goal.returns-in-Pointer
 returns-in-Pointer c = rw c.in-Pointer.is

@@ -1,10 +1,8 @@
 -- `samples_input::read_into` meets its contract. Assumes nothing.
 use mathlib.Core.Path.{◌≡◌}
 use Prim.Native.Nat.{◌-◌}
-use borrow.Author.Rules.{rules}
 use lib.ListN.{length, take}
 use Rattle.samples_input.specs.Input.{NoEnd}
-use Rattle.samples_input.proofs.InputLaws.{one_more, all_read, last-is}
 use Rattle.samples_input.proofs.read_into.Given as goal
 
 abbrev pub invariant-loop-n : goal.invariant-loop-n

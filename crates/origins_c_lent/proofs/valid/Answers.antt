@@ -1,0 +1,7 @@
+-- `origins_c_lent::valid` meets its contract. Assumes nothing.
+use Rattle.origins_c_lent.proofs.LentLaws.{under}
+use borrow.Author.Rules.{rules}
+use Rattle.origins_c_lent.proofs.valid.Goals as goal
+
+pub returns : goal.returns
+returns c k = under _ _ _ _ _ (c.valid.ensures k) c.map_of.ensures
