@@ -49,7 +49,11 @@ pub fn turn(
     }
     let Decoded::Call(request) = calls_origins_records::decode(unread(bytes, window)) else {
         return OriginsRun {
-            run: ended(map, window, calls_output::undecodable(output, lines, pending)),
+            run: ended(
+                map,
+                window,
+                calls_output::undecodable(output, lines, pending),
+            ),
             counter,
         };
     };
@@ -66,7 +70,16 @@ pub fn turn(
     let kind = kind_of(request);
     let length = length_of(request);
     OriginsRun {
-        run: told(output, lines, run, window, kind, length, served.map, served.answer),
+        run: told(
+            output,
+            lines,
+            run,
+            window,
+            kind,
+            length,
+            served.map,
+            served.answer,
+        ),
         counter: served.counter,
     }
 }

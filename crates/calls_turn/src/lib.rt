@@ -32,10 +32,23 @@ pub fn turn(
         return ended(map, window, pending);
     }
     let Decoded::Call(request) = calls_records::decode(unread(bytes, window)) else {
-        return ended(map, window, calls_output::undecodable(output, lines, pending));
+        return ended(
+            map,
+            window,
+            calls_output::undecodable(output, lines, pending),
+        );
     };
     let served = calls_serve::serve(map, heap, primary, secondary, request);
     let kind = calls_kinds::kind_of(request);
     let length = calls_kinds::length_of(request);
-    told(output, lines, run, window, kind, length, served.map, served.answer)
+    told(
+        output,
+        lines,
+        run,
+        window,
+        kind,
+        length,
+        served.map,
+        served.answer,
+    )
 }

@@ -1,0 +1,7 @@
+-- `origins_c::block_monitor_origins_remove` meets its contract. Assumes nothing.
+use Rattle.origins_c_lent.proofs.LentLaws.{spoken}
+use borrow.Author.Rules.{rules}
+use Rattle.origins_c.proofs.block_monitor_origins_remove.Goals as goal
+
+pub returns : goal.returns
+returns c = spoken _ _ c.told.new.fields _ _ _ _ _ _ _ _ _ _ _ _ _ c.told.ensures c.remove.ensures c.map_of.ensures
