@@ -2,6 +2,7 @@
 #![cfg(library)]
 
 use model::call::{Answer, Call};
+use model::held::origins::HeldOrigins;
 use model::map::Map;
 use model::origins::call::OriginsCall;
 use model::origins::cells::State;
@@ -52,6 +53,9 @@ library! {
 const UNWRITTEN: u8 = 0;
 const WRITTEN: u8 = 1;
 const LITERAL: u8 = 2;
+
+/// What the tests hold against the models.
+pub const LIBRARY: HeldOrigins = HeldOrigins { library: call };
 
 /// One call of the proved library on lent state.
 pub fn call(map: Map, state: &mut State, call: OriginsCall) -> Answer {

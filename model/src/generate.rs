@@ -1,12 +1,14 @@
 //! Seeded maps and calls that crowd the areas and keep to their edges.
 //!
 //! The submodules make shadow bytes and input files of the same kind, and ask
-//! for places.
+//! for places; they fill large areas, and tell the bytes that count there.
 
 pub mod file;
+pub mod layouts;
 mod maps;
 pub mod places;
 pub mod shadows;
+pub mod telling;
 
 pub use maps::{edge_map, edge_map_of, map, map_of, Scale};
 
@@ -96,6 +98,16 @@ pub fn record(random: &mut Random, map: Map, blocks: &[Block]) -> Call {
         12..=17 => random.between(segment + 1, 3 * segment + 1),
         _ => random.between(1, map.heap_size),
     };
+    recording(random, base, length)
+}
+
+/// The same in a large area: in the heap, with a length at the places where a number
+/// needs one bit more.
+pub(crate) fn record_near_a_step(random: &mut Random, map: Map) -> Call {
+    let segment = map.form.segment;
+    let base = map.heap_start + segment * random.between(0, map.heap_size / segment - 1);
+    let step = random.pick(&[1 << 8, 1 << 12, 1 << 15, 1 << 16]);
+    let length = step - 1 + random.between(0, 2);
     recording(random, base, length)
 }
 

@@ -11,11 +11,16 @@
 //! - [`places`]: a place for the next block.
 //! - [`endings`]: free and remove.
 //! - [`numbers`]: numbers of 2 to the 32 or more, where they are wide enough.
+//! - [`large`]: much of this in areas of a few thousand bytes and of the largest
+//!   sizes.
+//! - [`origins`]: the same for the form with origins.
 
 pub mod addresses;
 pub mod any_bytes;
 pub mod endings;
+pub mod large;
 pub mod numbers;
+pub mod origins;
 pub mod places;
 pub mod ranges;
 pub mod runs;
@@ -81,6 +86,47 @@ macro_rules! held {
                 $library.$name();
             }
         )*
+    };
+}
+
+/// Those of large areas, at both sizes.
+#[macro_export]
+macro_rules! held_large {
+    ($library:expr) => {
+        $crate::held_large!($library;
+            changes_of_a_byte,
+            every_byte_once,
+            every_value_of_a_byte,
+            other_numbers,
+            damaged_and_random_bytes,
+            calls_at_addresses,
+            totals,
+            endings,
+            recordings,
+            ranges,
+            wrong_maps_and_lengths,
+            places,
+        );
+    };
+    ($library:expr; $($name:ident,)*) => {
+        mod middle_size {
+            use super::*;
+            $(
+                #[test]
+                fn $name() {
+                    $library.at($crate::generate::Scale::Middle).$name();
+                }
+            )*
+        }
+        mod full_size {
+            use super::*;
+            $(
+                #[test]
+                fn $name() {
+                    $library.at($crate::generate::Scale::Full).$name();
+                }
+            )*
+        }
     };
 }
 

@@ -23,6 +23,7 @@
 //! - [`recorded`]: the recorded runs; those of when free still took stack blocks, as they are now.
 //! - [`notation`]: the one-line notation of the example files.
 //! - [`samples`]: the samples program, which answers lines of that notation.
+//! - [`stated`]: the samples of tests/data, each line of which tells every byte.
 //! - [`origins`]: the form with origins, with its own models and program.
 //! - [`held`]: a linked library held against the models.
 //! - [`random`], [`generate`]: seeded maps, calls, shadows and input files.
@@ -45,3 +46,4 @@ pub mod random;
 pub mod reading;
 pub mod recorded;
 pub mod samples;
+pub mod stated;

@@ -37,6 +37,15 @@ pub struct OneCall {
     pub then: Vec<Bytes>,
 }
 
+impl OneCall {
+    /// The shadows afterwards: those given, but for the bytes that are stated.
+    pub fn after(&self) -> Shadows {
+        let mut after = self.shadows.clone();
+        put(&mut after, &self.then).expect("a sample's bytes have their places");
+        after
+    }
+}
+
 /// Bytes of one shadow from a position on.
 #[derive(Clone, Debug)]
 pub struct Bytes {
@@ -166,7 +175,7 @@ pub fn put(shadows: &mut Shadows, parts: &[Bytes]) -> Option<()> {
     Some(())
 }
 
-fn bytes_of(text: &str) -> Option<Vec<Bytes>> {
+pub(crate) fn bytes_of(text: &str) -> Option<Vec<Bytes>> {
     words(text)
         .map(|part| {
             let (place, bytes) = part.split_once('=')?;

@@ -11,6 +11,8 @@ use crate::call::Answer;
 use crate::map::Map;
 use crate::notation::{asked, records, Shadow, DESK_MAP, EXAMPLE_MAP};
 use crate::origins;
+use crate::origins::call::OriginsCall;
+use crate::origins::cells::State;
 use crate::origins::notation::Lent;
 use crate::program;
 
@@ -37,7 +39,7 @@ pub fn answered(text: &[u8]) -> Vec<u8> {
     output
 }
 
-fn right_hand_side(line: &str) -> String {
+pub(crate) fn right_hand_side(line: &str) -> String {
     if line.is_empty() || line.starts_with('#') {
         return String::new();
     }
@@ -91,8 +93,12 @@ fn call_side(map: Map, question: &str) -> Option<String> {
 
 fn origins_call_side(question: &str) -> Option<String> {
     let (before, call) = origins::notation::asked(question)?;
+    Some(origins_side(EXAMPLE_MAP, before, call))
+}
+
+pub(crate) fn origins_side(map: Map, before: State, call: OriginsCall) -> String {
     let mut after = before.clone();
-    let answer = origins::bytes::call(EXAMPLE_MAP, &mut after, call);
+    let answer = origins::bytes::call(map, &mut after, call);
     let changed = Lent::ALL.into_iter().filter_map(|lent| {
         let told = change(lent.of(&before), lent.of(&after))?;
         Some(format!(" {}@{told}", lent.name()))
@@ -101,7 +107,7 @@ fn origins_call_side(question: &str) -> Option<String> {
     if after.counter != before.counter {
         changed += &format!(" counter={}", after.counter);
     }
-    Some(answer_text(call.answer_fields(), answer) + &then(changed))
+    answer_text(call.answer_fields(), answer) + &then(changed)
 }
 
 /// The number and as many fields as the call has, on a refusal too.

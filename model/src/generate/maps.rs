@@ -9,6 +9,8 @@ use crate::random::Random;
 pub enum Scale {
     /// A few segments and a few dozen stack bytes, soon full.
     Crowded,
+    /// A few thousand bytes in each area.
+    Middle,
     /// The largest areas of a good map.
     Full,
 }
@@ -27,6 +29,7 @@ pub fn map_of(form: Form, random: &mut Random, scale: Scale) -> Map {
     let segment = form.segment;
     let (heap_size, stack_size) = match scale {
         Scale::Crowded => (segment * random.between(2, 16), 8 * random.between(2, 9)),
+        Scale::Middle => (16 * random.between(260, 500), 8 * random.between(260, 500)),
         Scale::Full => (131_072 - 131_072 % segment, 65_536),
     };
     let apart = 8 * random.below(40);

@@ -3,6 +3,7 @@
 use crate::block::{Beginning, Block};
 use crate::call::Call;
 use crate::form::Form;
+use crate::generate::telling::Place;
 use crate::generate::{call, ending_anywhere, inside, places};
 use crate::image::{image, Shadows};
 use crate::map::Map;
@@ -137,6 +138,11 @@ pub(crate) fn change(random: &mut Random, form: Form, shadows: &mut Shadows) {
         _ => (8, &mut shadows.secondary),
     };
     let position = random.below(shadow.len() as u64) as usize;
+    change_at(random, unit, shadow, position);
+}
+
+/// A change of the byte at this position, or of the number around it.
+fn change_at(random: &mut Random, unit: u32, shadow: &mut [u8], position: usize) {
     match random.below(4) {
         0 => shadow[position] ^= 1 << random.below(8),
         1 => {
@@ -156,6 +162,15 @@ pub(crate) fn change(random: &mut Random, form: Form, shadows: &mut Shadows) {
             let at = position - position % 4;
             shadow[at..at + 4].copy_from_slice(&number.to_le_bytes());
         }
+    }
+}
+
+/// One change at a place that tells.
+pub fn change_there(random: &mut Random, form: Form, shadows: &mut Shadows, place: Place) {
+    match place {
+        Place::Heap(at) => change_at(random, form.segment, &mut shadows.heap, at),
+        Place::Primary(at) => change_at(random, 8, &mut shadows.primary, at),
+        Place::Secondary(at) => change_at(random, 8, &mut shadows.secondary, at),
     }
 }
 

@@ -29,6 +29,13 @@ impl Held {
         }
     }
 
+    pub fn runs_at_middle_size(&self) {
+        println!("seeds 0 to {}", 60 * times());
+        for seed in 0..60 * times() {
+            self.run(seed, Scale::Middle, 150);
+        }
+    }
+
     pub fn runs_at_full_size(&self) {
         println!("seeds 0 to {}", 10 * times());
         for seed in 0..10 * times() {

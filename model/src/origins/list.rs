@@ -40,6 +40,23 @@ impl OriginsList {
         }
     }
 
+    /// The list of these blocks, each of which has an origin at its base, and of
+    /// these pointers, each of which stands in a block.
+    pub fn made_of(
+        plain: PlainList,
+        counter: u64,
+        origins: BTreeMap<u32, u32>,
+        referents: BTreeMap<u32, u32>,
+    ) -> Self {
+        OriginsList {
+            plain,
+            counter,
+            last: LAST_ORIGIN,
+            origins,
+            referents,
+        }
+    }
+
     pub fn map(&self) -> Map {
         self.plain.map()
     }

@@ -142,7 +142,7 @@ pub fn asked(text: &str) -> Option<(State, OriginsCall)> {
 
 /// The state of the parts given, from left to right: bytes must have their
 /// place in the length given last before them.
-fn state_of(parts: &[Part]) -> Option<State> {
+pub(crate) fn state_of(parts: &[Part]) -> Option<State> {
     let mut state = State::cleared(EXAMPLE_MAP);
     let mut lengths = Lent::ALL.map(|lent| lent.of(&state).len());
     for lent in Lent::ALL {
@@ -183,11 +183,11 @@ pub fn put(state: &mut State, parts: &[Part]) -> Option<()> {
     Some(())
 }
 
-fn parts(text: &str) -> Option<Vec<Part>> {
+pub(crate) fn parts(text: &str) -> Option<Vec<Part>> {
     words(text).map(part).collect()
 }
 
-fn part(word: &str) -> Option<Part> {
+pub(crate) fn part(word: &str) -> Option<Part> {
     let lent = |name: &str| Lent::ALL.into_iter().find(|lent| lent.name() == name);
     let (place, value) = word.split_once('=')?;
     if let Some((name, position)) = place.split_once('@') {
@@ -201,7 +201,7 @@ fn part(word: &str) -> Option<Part> {
     }
 }
 
-fn named_call(text: &str) -> Option<OriginsCall> {
+pub(crate) fn named_call(text: &str) -> Option<OriginsCall> {
     let trimmed = text.trim_matches(' ');
     let (name, rest) = trimmed.split_once(' ').unwrap_or((trimmed, ""));
     let names = ["point", "copy", "live"];

@@ -1,6 +1,7 @@
 //! What several test files share.
 #![allow(dead_code)]
 
+pub mod clauses;
 pub mod gaps;
 pub mod lent;
 pub mod program;
@@ -10,9 +11,11 @@ use std::path::PathBuf;
 
 use model::bytes;
 use model::call::{Answer, Call};
+use model::decode::decode;
 use model::image::Shadows;
 use model::map::Map;
 use model::notation::{examples, Example, OneCall};
+use model::plain::List;
 use model::reading::View;
 
 /// A file of tests/data.
@@ -109,6 +112,31 @@ pub fn on_bytes(line: &str, example: &OneCall) {
         let bytes = &shadow[stated.position..][..stated.bytes.len()];
         assert_eq!(bytes, stated.bytes, "{line}: bytes afterwards");
     }
+}
+
+/// The same of an example that tells every byte afterwards.
+pub fn on_every_byte(line: &str, example: &OneCall) {
+    on_bytes(line, example);
+    let (_, shadows) = step(example.map, &example.shadows, example.call);
+    assert_eq!(shadows, example.after(), "{line}: bytes afterwards");
+}
+
+/// The list whose image the shadows are, made by calls alone.
+pub fn list_of<L: List>(map: Map, shadows: &Shadows) -> Option<L> {
+    let blocks = decode(view(map, shadows))?;
+    let mut list = L::new(map);
+    for block in blocks {
+        let (base, length) = (block.base, block.length);
+        if block.literal {
+            list.step(Call::RecordLiteral { base, length });
+            continue;
+        }
+        list.step(Call::Record { base, length });
+        for (address, _) in (base..).zip(&block.written).filter(|(_, &mark)| mark) {
+            list.step(Call::Written { address, n: 1 });
+        }
+    }
+    Some(list)
 }
 
 /// The call that ends the block of this base, or is refused there.
