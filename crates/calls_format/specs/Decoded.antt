@@ -1,5 +1,6 @@
 -- What the code's requests stand for, and the kind and length that a request's record has. Assumes nothing.
-use Rattle.std.specs.Prelude.{◌≡◌, Bool, true, false, ◌||◌, ◌⊎◌, ℕ, eqb}
+use Rattle.std.specs.Prelude as std
+use Rattle.std.specs.Prelude.{◌≡◌, Bool, true, false, ◌||◌, ◌⊎◌, ℕ, eqb, Some, None}
 use Rattle.std.proofs.Math.Option.{Option, none, some}
 use Rattle.types.specs.declared.Beginning.{Beginning}
 use Rattle.types.specs.declared.Beginning.TheVariants.{Unwritten, Written, Literal}
@@ -7,8 +8,6 @@ use Rattle.plain.specs.Call.{Call, clear, begin, free, remove, written, ask, val
 use Rattle.monitor_base.specs.Answers.{call_of}
 use Rattle.calls_format.specs.declared.Request as code
 use Rattle.calls_format.specs.declared.Request.TheVariants as case
-use Rattle.calls_format.specs.declared.Decoded.{Decoded}
-use Rattle.calls_format.specs.declared.Decoded.TheVariants as decoded
 use Rattle.calls_format.specs.Records.{Request, new_map, call, fields_of, record_length}
 
 abbrev pub requested : code.Request → Request
@@ -16,9 +15,9 @@ requested (case.NewMap m) = new_map m
 requested (case.Call c) = call (call_of c)
 
 -- none where the record is undecodable
-abbrev pub decoded_of : Decoded → Option Request
-decoded_of (decoded.Call r) = some (requested r)
-decoded_of decoded.Undecodable = none
+abbrev pub decoded_of : std.Option code.Request → Option Request
+decoded_of (Some r) = some (requested r)
+decoded_of None = none
 
 -- the kind that records a block which begins so
 abbrev pub begin_kind : Beginning → ℕ

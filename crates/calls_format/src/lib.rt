@@ -11,12 +11,6 @@ pub enum Request {
     Call(Call),
 }
 
-#[derive(Clone, Copy)]
-pub enum Decoded {
-    Call(Request),
-    Undecodable,
-}
-
 // The map that holds after a request, and its answer.
 #[derive(Clone, Copy)]
 pub struct Served {

@@ -3,32 +3,74 @@
 
 ghost use Rattle.std.specs.Prelude.{◌≡◌};
 ghost use Rattle.monitor_base.specs.Answers.{call_of, query_of, update_of};
-ghost use Rattle.calls_format.specs.Decoded as kinds;
-ghost use Rattle.calls_format.specs.Decoded.{requested, begin_kind, Records, call_kind, kind_of, length_of};
+ghost use Rattle.calls_format.specs.Decoded.{requested, begin_kind, call_kind, kind_of, length_of};
+ghost use Rattle.calls_kinds.specs.Kind.{number_of, Decodes};
 
 use calls_format::Request;
 use monitor_base::{Call, Query, Update};
 use plain::Beginning;
 
-// How long a record of a kind is; 0 where the kind is unknown.
-pub fn record_length(kind: u32) -> usize
-    ensures { result ≡ length_of kind }
-{
-    match kind {
-        1 => 20,
-        6 | 15 => 16,
-        2 | 4 | 7 | 10 | 14 => 12,
-        3 | 5 | 8 | 16 => 8,
-        9 => 4,
-        _ => 0,
+// The kinds of records.
+#[derive(Clone, Copy, PartialEq, Eq)]
+pub enum Kind {
+    NewMap,
+    Record,
+    Free,
+    Written,
+    Ask,
+    Valid,
+    Initialised,
+    Next,
+    Audit,
+    RecordWritten,
+    RecordLiteral,
+    ValidRead,
+    Remove,
+}
+
+// A number that no kind of record has.
+#[derive(Clone, Copy, PartialEq, Eq)]
+pub struct UnknownKind(pub u32);
+
+impl TryFrom<u32> for Kind {
+    type Error = UnknownKind;
+
+    ghost try_from_gives = { Decodes };
+
+    fn try_from(number: u32) -> Result<Self, UnknownKind> {
+        match number {
+            1 => Ok(Kind::NewMap),
+            2 => Ok(Kind::Record),
+            3 => Ok(Kind::Free),
+            4 => Ok(Kind::Written),
+            5 => Ok(Kind::Ask),
+            6 => Ok(Kind::Valid),
+            7 => Ok(Kind::Initialised),
+            8 => Ok(Kind::Next),
+            9 => Ok(Kind::Audit),
+            10 => Ok(Kind::RecordWritten),
+            14 => Ok(Kind::RecordLiteral),
+            15 => Ok(Kind::ValidRead),
+            16 => Ok(Kind::Remove),
+            _ => Err(UnknownKind(number)),
+        }
     }
 }
 
-// Whether the calls of a kind write.
-pub fn writes(kind: u32) -> bool
-    ensures { result ≡ kinds.writes kind }
-{
-    (kind == 2) | (kind == 3) | (kind == 4) | (kind == 10) | (kind == 14) | (kind == 16)
+impl Kind {
+    // How many bytes a record of this kind has.
+    pub fn length(self) -> usize
+        ensures { result ≡ length_of (number_of self) }
+    {
+        match self {
+            Kind::NewMap => 20,
+            Kind::Valid | Kind::ValidRead => 16,
+            Kind::Record | Kind::RecordWritten | Kind::RecordLiteral => 12,
+            Kind::Written | Kind::Initialised => 12,
+            Kind::Free | Kind::Remove | Kind::Ask | Kind::Next => 8,
+            Kind::Audit => 4,
+        }
+    }
 }
 
 fn query_kind(query: Query) -> u32
@@ -56,18 +98,6 @@ fn begin_kind(how: Beginning) -> u32
         Beginning::Unwritten => 2,
         Beginning::Written => 10,
         Beginning::Literal => 14,
-    }
-}
-
-// How a block begins that a record of this kind records.
-pub fn beginning_of(kind: u32) -> Beginning
-    requires { Records kind }
-    ensures { begin_kind result ≡ kind }
-{
-    match kind {
-        2 => Beginning::Unwritten,
-        10 => Beginning::Written,
-        _ => Beginning::Literal,
     }
 }
 
@@ -103,9 +133,12 @@ pub fn kind_of(r: Request) -> u32
     }
 }
 
-// How many bytes a request's record has.
+// How many bytes a request's record has; 0 for clear, which has none.
 pub fn length_of(r: Request) -> usize
     ensures { result ≡ length_of (kind_of (requested r)) }
 {
-    record_length(kind_of(r))
+    match Kind::try_from(kind_of(r)) {
+        Ok(kind) => kind.length(),
+        Err(_) => 0,
+    }
 }

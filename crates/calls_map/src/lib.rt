@@ -1,18 +1,23 @@
-// The number that a new map is answered with.
+// The check of a new map.
 #![tactic(auto)]
 
-ghost use Rattle.std.specs.Prelude.{◌≡◌};
+ghost use Rattle.monitor_base.specs.Refusals.{Decides};
 ghost use Rattle.calls_format.specs.Running.{map_number};
 
 use map::{Form, Map};
+use monitor_base::Refusal;
 
-// 1 where a rule is broken, 10 where the program has no shadows of these sizes, else 0.
-pub fn map_number(m: Map) -> u32
-    ensures { result ≡ map_number m }
+// Whether the map keeps its rules, and the program has shadows of its sizes.
+pub fn checked(m: Map) -> Result<(), Refusal>
+    ensures { Decides (map_number m) result }
 {
     if !m.good(Form::Player) {
-        return 1;
+        return Err(Refusal::BadMap);
     }
     let above = (32768 < m.heap_size) | (16384 < m.stack_size);
-    if above { 10 } else { 0 }
+    if above {
+        Err(Refusal::TooLarge)
+    } else {
+        Ok(())
+    }
 }

@@ -12,12 +12,6 @@ pub enum Request {
     Pointer(Pointer),
 }
 
-#[derive(Clone, Copy)]
-pub enum Decoded {
-    Call(Request),
-    Undecodable,
-}
-
 // The map and the counter that hold after a request, and its answer.
 #[derive(Clone, Copy)]
 pub struct Served {

@@ -10,33 +10,31 @@ ghost use Rattle.calls_origins_format.specs.Decoded.{requested};
 ghost use Rattle.calls_origins_plan.specs.Plan.{plan_of, lifted};
 
 use calls_origins_format::Request;
-use calls_plan::part;
+use calls_plan::Step;
 use map::Map;
+use monitor_base::{Call, Refusal};
 use origins_base::OriginsCall;
 
-#[derive(Clone, Copy)]
-pub enum Plan {
-    Step(Map, OriginsCall),
-    Refused(u32),
-}
-
 // What is planned for the plain library, planned for this one.
-fn plan_like(plan: calls_plan::Plan) -> Plan
+fn plan_like(plan: Result<Step<Call>, Refusal>) -> Result<Step<OriginsCall>, Refusal>
     ensures { plan_of result ≡ lifted (monitor.plan_of plan) }
 {
-    match plan {
-        calls_plan::Plan::Step(under, call) => Plan::Step(under, OriginsCall::Plain(call)),
-        calls_plan::Plan::Refused(number) => Plan::Refused(number),
-    }
+    plan.map(|step| Step {
+        under: step.under,
+        call: OriginsCall::Plain(step.call),
+    })
 }
 
 // An accepted map clears, under itself; a refused one leaves all.
-pub fn plan_of(map: Map, request: Request) -> Plan
+pub fn plan_of(map: Map, request: Request) -> Result<Step<OriginsCall>, Refusal>
     ensures { plan_of result ≡ planned (plain clear) map (requested request) }
 {
     match request {
         Request::Plain(asked) => plan_like(calls_plan::plan_of(map, asked)),
-        Request::Pointer(pointer) => Plan::Step(map, OriginsCall::Pointer(pointer)),
+        Request::Pointer(pointer) => Ok(Step {
+            under: map,
+            call: OriginsCall::Pointer(pointer),
+        }),
     }
 }
 
@@ -52,7 +50,7 @@ pub fn cell_sizes(map: Map, heap: usize, stack: usize) -> CellSizes
     ensures { (result.heap ≡ min (2 * map.heap_size) heap) × (result.stack ≡ min (2 * map.stack_size) stack) }
 {
     CellSizes {
-        heap: part(2 * (map.heap_size as usize), heap),
-        stack: part(2 * (map.stack_size as usize), stack),
+        heap: heap.min(2 * (map.heap_size as usize)),
+        stack: stack.min(2 * (map.stack_size as usize)),
     }
 }

@@ -9,7 +9,7 @@ ghost use Rattle.calls_origins_format.specs.Running as running;
 ghost use Rattle.calls_origins_format.specs.Kept.{parts, left, kept, served};
 
 use calls_origins_format::{Request, Served};
-use calls_origins_plan::{Plan, cell_sizes, plan_of};
+use calls_origins_plan::{cell_sizes, plan_of};
 use calls_plan::sizes_of;
 use map::Map;
 use monitor_base::guard::refusal;
@@ -66,12 +66,11 @@ fn serve_on(
         ≡ running.serve (requested request) (kept map heap.old primary.old secondary.old
         heap_cells.old stack_cells.old counter) }
 {
-    let plan = plan_of(map, request);
-    match plan {
-        Plan::Step(under, call) => {
+    match plan_of(map, request) {
+        Ok(step) => {
             let told = call_on(
-                call,
-                under,
+                step.call,
+                step.under,
                 heap,
                 primary,
                 secondary,
@@ -79,16 +78,15 @@ fn serve_on(
                 stack_cells,
                 counter,
             );
-            let answer = told.answer;
             Served {
-                map: under,
-                answer,
+                map: step.under,
+                answer: told.answer,
                 counter: told.counter,
             }
         }
-        Plan::Refused(number) => Served {
+        Err(refused) => Served {
             map,
-            answer: refusal(number),
+            answer: refusal(refused),
             counter,
         },
     }

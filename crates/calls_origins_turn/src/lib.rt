@@ -4,7 +4,6 @@
 ghost use Rattle.calls_file.specs.Turn.{Goes, Turned};
 ghost use Rattle.calls_origins_turn.specs.Point.{point_of};
 
-use calls_origins_format::Decoded;
 use calls_origins_kinds::{kind_of, length_of};
 use calls_run::{Run, ended, told};
 use calls_window::unread;
@@ -47,7 +46,7 @@ pub fn turn(
             counter,
         };
     }
-    let Decoded::Call(request) = calls_origins_records::decode(unread(bytes, window)) else {
+    let Some(request) = calls_origins_records::decode(unread(bytes, window)) else {
         return OriginsRun {
             run: ended(
                 map,

@@ -1,6 +1,5 @@
 -- A request is served by its plan, whatever the form. Assumes nothing.
 use mathlib.Core.Path.{◌≡◌, refl}
-use mathlib.Core.Logic.{◌≢◌}
 use Prim.Native.Nat.{ℕ, zero, suc}
 use native.Mathlib.Omega.{arith}
 use Rattle.map.specs.declared.Map.{Map}
@@ -9,18 +8,6 @@ use Rattle.calls_format.specs.Records.{Asked, new_map, call}
 use Rattle.calls_format.specs.Running.{map_number, serve_by}
 use Rattle.calls_format.proofs.ServeLaws.{served-call, served-refused, served-accepted}
 use Rattle.calls_plan.specs.Plan.{step, refused, answered_by, planned}
-
--- the two answers to a map
-module _ {C : Type 0} (clear : C) (m : Map) (k : ℕ) (e : k ≡ map_number m) where
-  pub answered-no : k ≢ 0 → refused k ≡ answered_by clear (map_number m) m
-  answered-no n = rw (← e) (go k n)
-    where
-      go : (j : ℕ) → j ≢ 0 → refused j ≡ answered_by clear j m
-      go zero z = absurd (z refl)
-      go (suc j) z = refl
-
-  pub answered-yes : k ≡ 0 → step m clear ≡ answered_by clear (map_number m) m
-  answered-yes z = rw (← e, z)
 
 -- what a program keeps is a view of its buffers, by the map
 module _ {C X : Type 0} (cleared : Map → X → X) (call_on : Map → C → X → X × Answer) (clear : C) (m : Map) (view : Map → X) where

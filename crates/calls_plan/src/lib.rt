@@ -8,26 +8,25 @@ ghost use Rattle.calls_plan.specs.Plan.{plan_of, planned};
 
 use calls_format::Request;
 use map::Map;
-use monitor_base::{Call, Update};
+use monitor_base::{Call, Refusal, Update};
 
+// A call of the program's form, and the map that it is made under.
 #[derive(Clone, Copy)]
-pub enum Plan {
-    Step(Map, Call),
-    Refused(u32),
+pub struct Step<C> {
+    pub under: Map,
+    pub call: C,
 }
 
 // An accepted map clears, under itself; a refused one leaves all.
-pub fn plan_of(map: Map, request: Request) -> Plan
+pub fn plan_of(map: Map, request: Request) -> Result<Step<Call>, Refusal>
     ensures { plan_of result ≡ planned clear map (requested request) }
 {
     match request {
-        Request::Call(call) => Plan::Step(map, call),
+        Request::Call(call) => Ok(Step { under: map, call }),
         Request::NewMap(new) => {
-            let number = calls_map::map_number(new);
-            if number != 0 {
-                return Plan::Refused(number);
-            }
-            Plan::Step(new, Call::Update(Update::Clear))
+            calls_map::checked(new)?;
+            let call = Call::Update(Update::Clear);
+            Ok(Step { under: new, call })
         }
     }
 }
@@ -40,20 +39,15 @@ pub struct Sizes {
     pub secondary: usize,
 }
 
-// As many bytes as the area asks for, where the buffer has so many.
-pub fn part(size: usize, length: usize) -> usize
-    ensures { result ≡ min size length }
-{
-    if size < length { size } else { length }
-}
-
+// As many bytes as each area asks for, where the buffer has so many.
 pub fn sizes_of(map: Map, heap: usize, primary: usize, secondary: usize) -> Sizes
     ensures { (result.heap ≡ min map.heap_size heap) × (result.primary ≡ min map.stack_size primary)
         × (result.secondary ≡ min map.stack_size secondary) }
 {
+    let stack_size = map.stack_size as usize;
     Sizes {
-        heap: part(map.heap_size as usize, heap),
-        primary: part(map.stack_size as usize, primary),
-        secondary: part(map.stack_size as usize, secondary),
+        heap: heap.min(map.heap_size as usize),
+        primary: primary.min(stack_size),
+        secondary: secondary.min(stack_size),
     }
 }

@@ -1,23 +1,28 @@
 // The records of a calls file, taken apart.
 #![tactic(auto)]
 
-ghost use Rattle.std.specs.Prelude.{◌≡◌, true, false, ◌≢◌, ◌+◌, ◌*◌, ◌≤◌, length};
+ghost use Rattle.std.specs.Prelude.{◌≡◌, ◌+◌, ◌*◌, ◌≤◌, length};
 ghost use Rattle.number.specs.Little.{word};
 ghost use Rattle.number.specs.Parts.{at};
 ghost use Rattle.monitor_base.specs.Answers.{query_of, update_of};
 ghost use Rattle.calls_format.specs.Records as records;
-ghost use Rattle.calls_format.specs.Decoded.{requested, decoded_of, length_of, writes};
+ghost use Rattle.plain.specs.Call as plain;
+ghost use Rattle.calls_format.specs.Decoded.{requested, decoded_of, length_of};
+ghost use Rattle.calls_kinds.specs.Kind.{number_of};
 
-use calls_format::{Decoded, Request};
+use calls_format::Request;
+use calls_kinds::Kind;
 use map::{Address, Map};
 use monitor_base::{Call, Query, Update};
+use plain::Beginning;
 
 // The two-byte number at a place of a slice.
+#[tactic(auto, unfolding(number::specs::Little::word))]
 pub fn short_at(s: &[u8], p: usize) -> u32
     requires { p + 2 ≤ length s.now }
     ensures { result ≡ word (at s.now) p 2 }
 {
-    number_words::wide(s[p]) + 256 * number_words::wide(s[p + 1])
+    u32::from(s[p]) + 256 * u32::from(s[p + 1])
 }
 
 // Field i of a record.
@@ -41,73 +46,82 @@ fn map_of(s: &[u8]) -> Map
     }
 }
 
-// The call of a record whose kind's calls write.
-fn update_of(s: &[u8], kind: u32) -> Update
-    requires { (writes kind ≡ true) × (length_of kind ≤ length s.now) }
-    ensures { records.call (update_of result) ≡ records.request_of kind s.now }
+// The address in field i of a record.
+fn address(s: &[u8], i: usize) -> Address
+    requires { 8 + 4 * i ≤ length s.now }
+    ensures { result.0 ≡ records.field s.now i }
 {
-    match kind {
-        3 => Update::Free(Address(field(s, 0))),
-        4 => Update::Written(Address(field(s, 0)), field(s, 1)),
-        16 => Update::Remove(Address(field(s, 0))),
-        _ => Update::Begin(
-            calls_kinds::beginning_of(kind),
-            Address(field(s, 0)),
-            field(s, 1),
-        ),
-    }
+    Address(field(s, i))
 }
 
-// The call of a record whose kind's calls only read.
-fn query_of(s: &[u8], kind: u32) -> Query
-    requires { (kind ≢ 1) × (writes kind ≡ false) × (length_of kind ≤ length s.now) }
-    ensures { records.call (query_of result) ≡ records.request_of kind s.now }
+fn query(asked: Query) -> Request
+    ensures { requested result ≡ records.call (query_of asked) }
 {
-    match kind {
-        5 => Query::Ask(Address(field(s, 0))),
-        6 | 15 => Query::Valid(
-            kind == 6,
-            Address(field(s, 0)),
-            field(s, 1),
-            Address(field(s, 2)),
-        ),
-        7 => Query::Initialised(Address(field(s, 0)), field(s, 1)),
-        8 => Query::Next(Address(field(s, 0))),
-        _ => Query::Audit,
-    }
+    Request::Call(Call::Query(asked))
 }
 
-// What a record of a known kind asks for.
-fn request_of(s: &[u8], kind: u32) -> Request
-    requires { length_of kind ≤ length s.now }
-    ensures { requested result ≡ records.request_of kind s.now }
+fn update(asked: Update) -> Request
+    ensures { requested result ≡ records.call (update_of asked) }
 {
-    if kind == 1 {
-        return Request::NewMap(map_of(s));
+    Request::Call(Call::Update(asked))
+}
+
+// A block is recorded, as it begins.
+fn begin(s: &[u8], how: Beginning) -> Request
+    requires { 12 ≤ length s.now }
+    ensures { requested result ≡ records.call (plain.begin how (records.field s.now 0) (records.field s.now 1)) }
+{
+    update(Update::Begin(how, address(s, 0), field(s, 1)))
+}
+
+// Whether bytes may be read, and where the flag is set written.
+fn valid(s: &[u8], write: bool) -> Request
+    requires { 16 ≤ length s.now }
+    ensures { requested result ≡ records.call (plain.valid write (records.field s.now 0) (records.field s.now 1) (records.field s.now 2)) }
+{
+    let n = field(s, 1);
+    query(Query::Valid(write, address(s, 0), n, address(s, 2)))
+}
+
+// What a record of a kind asks for.
+#[tactic(auto, unfolding(calls_format::specs::Records::fields_of, calls_format::specs::Records::request_of))]
+fn request_of(s: &[u8], kind: Kind) -> Request
+    requires { length_of (number_of kind) ≤ length s.now }
+    ensures { requested result ≡ records.request_of (number_of kind) s.now }
+{
+    match kind {
+        Kind::NewMap => Request::NewMap(map_of(s)),
+        Kind::Record => begin(s, Beginning::Unwritten),
+        Kind::RecordWritten => begin(s, Beginning::Written),
+        Kind::RecordLiteral => begin(s, Beginning::Literal),
+        Kind::Free => update(Update::Free(address(s, 0))),
+        Kind::Remove => update(Update::Remove(address(s, 0))),
+        Kind::Written => update(Update::Written(address(s, 0), field(s, 1))),
+        Kind::Ask => query(Query::Ask(address(s, 0))),
+        Kind::Valid => valid(s, true),
+        Kind::ValidRead => valid(s, false),
+        Kind::Initialised => query(Query::Initialised(address(s, 0), field(s, 1))),
+        Kind::Next => query(Query::Next(address(s, 0))),
+        Kind::Audit => query(Query::Audit),
     }
-    if calls_kinds::writes(kind) {
-        return Request::Call(Call::Update(update_of(s, kind)));
-    }
-    Request::Call(Call::Query(query_of(s, kind)))
 }
 
 // The first record of the bytes that are left.
-pub fn decode(bytes: &[u8]) -> Decoded
+pub fn decode(bytes: &[u8]) -> Option<Request>
     ensures { decoded_of result ≡ records.decode bytes.now }
 {
     if bytes.len() < 4 {
-        return Decoded::Undecodable;
+        return None;
     }
-    let kind = short_at(bytes, 2);
-    let length = calls_kinds::record_length(kind);
-    if length == 0 {
-        return Decoded::Undecodable;
-    }
+    let Ok(kind) = Kind::try_from(short_at(bytes, 2)) else {
+        return None;
+    };
+    let length = kind.length();
     if short_at(bytes, 0) as usize != length {
-        return Decoded::Undecodable;
+        return None;
     }
     if bytes.len() < length {
-        return Decoded::Undecodable;
+        return None;
     }
-    Decoded::Call(request_of(bytes, kind))
+    Some(request_of(bytes, kind))
 }

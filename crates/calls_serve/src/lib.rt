@@ -10,7 +10,7 @@ ghost use Rattle.calls_format.specs.Running as running;
 ghost use Rattle.calls_format.specs.Kept.{parts, left, kept, served};
 
 use calls_format::{Request, Served};
-use calls_plan::{Plan, plan_of, sizes_of};
+use calls_plan::{plan_of, sizes_of};
 use map::{Form, Map};
 use monitor::{Answer, Call};
 use monitor_base::guard::refusal;
@@ -52,15 +52,14 @@ fn serve_on(
     ensures { served result heap.new primary.new secondary.new
         ≡ running.serve (requested request) (kept map heap.old primary.old secondary.old) }
 {
-    let plan = plan_of(map, request);
-    match plan {
-        Plan::Step(under, call) => Served {
-            map: under,
-            answer: call_on(call, under, heap, primary, secondary),
+    match plan_of(map, request) {
+        Ok(step) => Served {
+            map: step.under,
+            answer: call_on(step.call, step.under, heap, primary, secondary),
         },
-        Plan::Refused(number) => Served {
+        Err(refused) => Served {
             map,
-            answer: refusal(number),
+            answer: refusal(refused),
         },
     }
 }

@@ -4,7 +4,6 @@
 ghost use Rattle.calls_file.specs.Turn.{Goes, Turned};
 ghost use Rattle.calls_turn.specs.Point.{point_of};
 
-use calls_format::Decoded;
 use calls_run::{Run, ended, told};
 use calls_window::unread;
 use std::io::{Stdin, Stdout};
@@ -31,7 +30,7 @@ pub fn turn(
     if window.at == window.end {
         return ended(map, window, pending);
     }
-    let Decoded::Call(request) = calls_records::decode(unread(bytes, window)) else {
+    let Some(request) = calls_records::decode(unread(bytes, window)) else {
         return ended(
             map,
             window,

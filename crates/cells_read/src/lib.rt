@@ -6,6 +6,7 @@ ghost use Rattle.cells_layout.specs.Area.{origin_place, referent_place, half_at}
 
 use map::Position;
 
+// Two names, and no half as a parameter: each is one call, at the place that its contract names.
 pub fn origin_at(cells: &[u8], p: Position) -> u32
     requires { (2 * p.0 < length cells.now) × (length cells.now % 8 ≡ 0) × (length cells.now ≤ 262144) }
     ensures { result ≡ half_at cells.now (origin_place p.0) }

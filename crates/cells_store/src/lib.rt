@@ -6,6 +6,7 @@ ghost use Rattle.cells_layout.specs.Area.{origin_place, referent_place, set_half
 
 use map::Position;
 
+// Two names, and no half as a parameter: each is one call, at the place that its contract names.
 pub fn store_origin(cells: &mut [u8], p: Position, value: u32)
     requires { (2 * p.0 < length cells.old) × (length cells.old % 8 ≡ 0) × (length cells.old ≤ 262144) }
     ensures { cells.new ≡ set_half cells.old (origin_place p.0) value }

@@ -4,20 +4,22 @@
 mod walk;
 
 ghost use Rattle.std.specs.Prelude.{◌≡◌, ◌%◌, ◌≤◌, length};
+ghost use Rattle.map.specs.FormMap.{number_size, segment_size};
 ghost use Rattle.plain.specs.Answers.{heap_tally};
 ghost use Rattle.heap_layout.specs.Ops.{heap_ops};
 
-use heap_audit_laws::{Moved, Walk};
+use heap_audit_laws::Walk;
 use heap_audit_runs::ahead;
-use plain::Audit;
+use map::Form;
+use plain::Totals;
 
 // Blocks, live bytes and written bytes of the list of which the shadow is the image, or that it is none. No block is open at the end:
 // each ends inside the area.
-pub fn audit(heap: &[u8]) -> Audit
-    requires { (length heap.now % 8 ≡ 0) × (length heap.now ≤ 131072) }
-    ensures { heap_tally result ≡ (heap_ops 4 8 (length heap.now)).audit heap.now }
+pub fn audit(form: Form, heap: &[u8]) -> Option<Totals>
+    requires { (length heap.now % segment_size form ≡ 0) × (length heap.now ≤ 131072) }
+    ensures { heap_tally result ≡ (heap_ops (number_size form) (segment_size form) (length heap.now)).audit heap.now }
 {
-    let segments = heap.len() / 8;
+    let segments = heap.len() / form.segment();
     let mut w = Walk {
         len: 0,
         d: 0,
@@ -26,18 +28,15 @@ pub fn audit(heap: &[u8]) -> Audit
         written: 0,
     };
     let mut s: usize = 0;
+    // The step varies: the segments that are passed at once, and the one of the turn.
     while s < segments {
-        let r = ahead(heap, s, w);
-        let at = r.s;
-        match walk::turn(heap, at, r.w) {
-            Moved::On(v) => {
-                w = v;
-            }
-            Moved::NoImage => {
-                return Audit::NoImage;
-            }
-        }
-        s = at + 1;
+        let r = ahead(form, heap, s, w);
+        w = walk::turn(form, heap, r.s, r.w)?;
+        s = r.s + 1;
     }
-    Audit::Totals(w.blocks, w.live, w.written)
+    Some(Totals {
+        blocks: w.blocks,
+        live: w.live,
+        written: w.written,
+    })
 }

@@ -10,6 +10,7 @@ use lib.Count as count
 use lib.Dec.{eqb}
 use lib.Pow.{pow_pos}
 use borrow.Author.Tests.{eq-eqb, eqb-true}
+use Rattle.std.specs.Prelude.{Some}
 use Rattle.number.specs.Little.{word}
 use Rattle.number.specs.Parts.{at, zeros}
 use Rattle.number.proofs.TestLaws.{and-true, same_digits}
@@ -17,7 +18,6 @@ use Rattle.number.proofs.LittleLaws.{word_lt}
 use Rattle.number.proofs.WordLaws.{word_split}
 use Rattle.number.proofs.ZeroLaws.{zero_word, zeros-next}
 use Rattle.heap_audit_laws.specs.declared.Walk.{Walk}
-use Rattle.heap_audit_laws.specs.declared.Moved.TheVariants.{On}
 use Rattle.heap_audit_laws.specs.Turn.{Kept, Stands, Turned}
 use Rattle.heap_audit_laws.specs.Runs.{Owned, Passed}
 use Rattle.heap_audit_laws.proofs.BitsLaws.{pow-bytes}
@@ -55,6 +55,13 @@ owned-more W G two f b t d n m number bits o e l x u v =
     let k = halves W f b ((t + n) * G) number (bits / 256 ^ W) l (ap (word f ((t + n) * G)) (sym two) ∙ x ∙ y) in
     rw (ones-shifted W bits u) at (owned-pair W G f t d n m number (bits / 256 ^ W) o (sym k.0) (sym k.1) e v)
 
+-- the written bytes are no more than the segments' bytes
+pub owned-few : (W G : ℕ) (f : ℕ → ℕ) (t d n m : ℕ) → Owned W G f t d n m → m ≤ n * G
+owned-few W G f t d zero m o = omega arith
+owned-few W G f t d (suc n) m (k, o, x, y, e) =
+    let c : suc n * G ≡ G + n * G = omega arith in
+    omega (arith, owned-few W G f t d n k o, count.ones-le G (word f ((t + n) * G + W) W) y)
+
 -- ---- segments that are passed
 
 -- a block that has a byte n segments on has the whole segment inside the area
@@ -66,7 +73,7 @@ module _ (W G : ℕ) {h : List ℕ} {s : ℕ} {w : Walk} where
   passed_none i k = record { on = omega arith; inside = i; same = refl; kept = k }
 
   -- a turn more
-  pub passed-turn : {t : ℕ} {v u : Walk} → Passed W G h s w t v → Turned W G h t v (On u) → t + 1 < length h / G → Passed W G h s w (t + 1) u
+  pub passed-turn : {t : ℕ} {v u : Walk} → Passed W G h s w t v → Turned W G h t v (Some u) → t + 1 < length h / G → Passed W G h s w (t + 1) u
   passed-turn p k i = record { on = omega (arith, p.on); inside = i; same = p.same ∙ k.0; kept = k.1 }
 
 module _ (W G : ℕ) (wide : 4 ≤ W) (two : G ≡ W + W) {h : List ℕ} (small : length h ≤ 131072) (bytes : (q : ℕ) → at h q < 256) {s : ℕ} {w : Walk} where

@@ -12,6 +12,7 @@ use lib.ListN.{length, length-append}
 use lib.Dec.{leb}
 use lib.Count as count
 use borrow.Author.Tests.{le-leb, lt-leb, eq-eqb}
+use Rattle.std.specs.Prelude.{Option, Some, None}
 use Rattle.number.specs.Little.{word}
 use Rattle.number.specs.Bits.{ones}
 use Rattle.number.specs.Parts.{at}
@@ -25,8 +26,6 @@ use Rattle.heap_layout.specs.Image.{free, header}
 use Rattle.heap_layout.specs.Walk.{matches, heap_walk}
 use Rattle.heap_layout.proofs.WalkLaws.{length-marks}
 use Rattle.heap_audit_laws.specs.declared.Walk.{Walk}
-use Rattle.heap_audit_laws.specs.declared.Moved.{Moved}
-use Rattle.heap_audit_laws.specs.declared.Moved.TheVariants.{On, NoImage}
 use Rattle.heap_audit_laws.specs.Turn.{beside, rest, ones_at, Kept, Stands, Turned}
 use Rattle.heap_audit_laws.proofs.BitsLaws.{ones-word, marks-ones}
 use Rattle.heap_audit_laws.proofs.WalkLaws.{walk-free, walk-low, walk-past, walk-opens, walk-number, walk-bits, walk-goes, walk-idle}
@@ -70,24 +69,24 @@ module _ (W G : ℕ) (wide : 4 ≤ W) (two : G ≡ W + W) {h : List ℕ} {s : �
     none-goes : w.d ≡ 0
     none-goes = omega (arith, t.kept.offset)
 
-    pub turn_low : (low ≡ 0 → ⊥) → Turned W G h s w NoImage
+    pub turn_low : (low ≡ 0 → ⊥) → Turned W G h s w None
     unfolding rest beside
     turn_low a = rw (one_less, z, none-goes, walk-low W G wide two (length h) (at h) t.bytes left s low high t.lows t.highs a)
 
-    pub turn-free : low ≡ 0 → high ≡ 0 → Turned W G h s w (On w)
+    pub turn-free : low ≡ 0 → high ≡ 0 → Turned W G h s w (Some w)
     unfolding rest
     turn-free a b = (
       rw (one_less, z, none-goes, walk-free W G wide two (length h) (at h) t.bytes left s low high t.lows t.highs a b, add-one s),
       omega (arith, ends-in),
     )
 
-    pub turn-past : low ≡ 0 → (high ≡ 0 → ⊥) → length h < s * G + G + high → Turned W G h s w NoImage
+    pub turn-past : low ≡ 0 → (high ≡ 0 → ⊥) → length h < s * G + G + high → Turned W G h s w None
     unfolding rest beside
     turn-past a b c =
         rw (one_less, z, none-goes, walk-past W G wide two (length h) (at h) t.bytes left s low high t.lows t.highs a b (omega arith))
 
     pub turn-opens : low ≡ 0 → (high ≡ 0 → ⊥) → s * G + G + high ≤ length h
-        → Turned W G h s w (On (record { len = high; d = 0; blocks = w.blocks + 1; live = w.live; written = w.written }))
+        → Turned W G h s w (Some (record { len = high; d = 0; blocks = w.blocks + 1; live = w.live; written = w.written }))
     unfolding rest
     turn-opens a b c = (
       rw (one_less, z, none-goes, walk-opens W G wide two (length h) (at h) t.bytes left s low high t.lows t.highs a b (omega arith), add-one s)
@@ -99,14 +98,14 @@ module _ (W G : ℕ) (wide : 4 ≤ W) (two : G ≡ W + W) {h : List ℕ} {s : �
     small-offset : w.d + 1 < 256 ^ W
     small-offset = omega (arith, t.kept, t.small, ends-in, pow-le-pow_right {n = 256} (omega arith) wide)
 
-    pub turn-number : (low ≡ w.d + 1 → ⊥) → Turned W G h s w NoImage
+    pub turn-number : (low ≡ w.d + 1 → ⊥) → Turned W G h s w None
     unfolding rest beside
     turn-number a =
         rw (one_less, walk-number W G wide two (length h) (at h) t.bytes left s low high t.lows t.highs w.len w.d z small-offset a)
 
     -- k: how many bytes of the block the segment has
     module _ {k : ℕ} (e : k ≡ min G (w.len - w.d)) (a : low ≡ w.d + 1) where
-      pub turn-bits : (high / 2 ^ k ≡ 0 → ⊥) → Turned W G h s w NoImage
+      pub turn-bits : (high / 2 ^ k ≡ 0 → ⊥) → Turned W G h s w None
       unfolding rest beside
       turn-bits b =
           rw (one_less, walk-bits W G wide two (length h) (at h) t.bytes left s low high t.lows t.highs w.len w.d z small-offset a (rw e at b))
@@ -130,7 +129,7 @@ module _ (W G : ℕ) (wide : 4 ≤ W) (two : G ≡ W + W) {h : List ℕ} {s : �
             )
 
         pub turn_last : w.len ≤ w.d + G
-            → Turned W G h s w (On (record { len = 0; d = 0; blocks = w.blocks; live = w.live + k; written = w.written + m }))
+            → Turned W G h s w (Some (record { len = 0; d = 0; blocks = w.blocks; live = w.live + k; written = w.written + m }))
         unfolding rest
         turn_last c = (
           goes ∙ rw (le-leb w.len (w.d + G) c, walk-idle W G (length h) (at h) left (suc s) (w.d + G), add-one s),
@@ -138,7 +137,7 @@ module _ (W G : ℕ) (wide : 4 ≤ W) (two : G ≡ W + W) {h : List ℕ} {s : �
         )
 
         pub turn_more : w.d + G < w.len
-            → Turned W G h s w (On (record { len = w.len; d = w.d + G; blocks = w.blocks; live = w.live + k; written = w.written + m }))
+            → Turned W G h s w (Some (record { len = w.len; d = w.d + G; blocks = w.blocks; live = w.live + k; written = w.written + m }))
         unfolding rest
         turn_more c = (
           goes ∙ rw (lt-leb w.len (w.d + G) c, add-one s),
@@ -148,7 +147,7 @@ module _ (W G : ℕ) (wide : 4 ≤ W) (two : G ≡ W + W) {h : List ℕ} {s : �
     -- a whole segment that is the block's own, where the block goes on after it
     pub turn-whole : low ≡ w.d + 1 → high < 2 ^ G → w.d + G < w.len
         → Turned W G h s w
-        (On (record { len = w.len; d = w.d + G; blocks = w.blocks; live = w.live + G; written = w.written + count.ones high }))
+        (Some (record { len = w.len; d = w.d + G; blocks = w.blocks; live = w.live + G; written = w.written + count.ones high }))
     turn-whole a b c =
         turn_more {k = G} (omega arith) a (div-eq_of_lt b) W (omega arith) (omega arith) {m = count.ones high}
         (rw t.highs (ones-word (at h) t.bytes W (s * G + W))) (count.ones-le G high b) c
@@ -198,5 +197,5 @@ module _ (W G : ℕ) where
       let z : w.len ≡ 0 = omega (arith, k) in
       rw (e, eq-eqb w.len 0 z, add-zero w.blocks, add-zero w.live, add-zero w.written)
 
-  pub turned : (h : List ℕ) (s : ℕ) (w : Walk) (r m : Moved) → Turned W G h s w r → r ≡ m → Turned W G h s w m
+  pub turned : (h : List ℕ) (s : ℕ) (w : Walk) (r m : Option Walk) → Turned W G h s w r → r ≡ m → Turned W G h s w m
   turned h s w r m t e = subst (Turned W G h s w) e t

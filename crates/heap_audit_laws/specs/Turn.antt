@@ -1,6 +1,7 @@
 -- The audit's walk as the code goes it, at numbers of W bytes and segments of G: what is left of it beside what is counted, and what a turn
 -- keeps. Assumes nothing.
-use Rattle.std.specs.Prelude.{◌≡◌, List, ℕ, zero, suc, ◌+◌, ◌*◌, ◌-◌, ◌/◌, ◌≤◌, ◌<◌, max, length}
+use Rattle.std.specs.Prelude as std
+use Rattle.std.specs.Prelude.{◌≡◌, List, ℕ, zero, suc, ◌+◌, ◌*◌, ◌-◌, ◌/◌, ◌≤◌, ◌<◌, max, length, Some, None}
 use Rattle.std.proofs.Math.Option.{Option, none, some}
 use Rattle.number.specs.Little.{word}
 use Rattle.number.specs.Bits.{ones, ones_of}
@@ -10,8 +11,6 @@ use Rattle.plain.specs.Reading.{Tally, tally}
 use Rattle.plain.specs.Found.{Found, bad, got}
 use Rattle.heap_layout.specs.Walk.{heap_walk}
 use Rattle.heap_audit_laws.specs.declared.Walk.{Walk}
-use Rattle.heap_audit_laws.specs.declared.Moved.{Moved}
-use Rattle.heap_audit_laws.specs.declared.Moved.TheVariants.{On, NoImage}
 
 -- the totals of what is found, the marks of the block that goes on among them, beside what is counted
 unfoldable pub beside : (b l m : ℕ) → Found → Option Tally
@@ -45,7 +44,7 @@ pub record Stands (W G : ℕ) (h : List ℕ) (s : ℕ) (w : Walk) (low high : �
   pub lows : low ≡ word (at h) (s * G) W
   pub highs : high ≡ word (at h) (s * G + W) W
 
--- a turn leaves what the walk comes to as it was
-abbrev pub Turned : (W G : ℕ) → List ℕ → (s : ℕ) → Walk → Moved → Type 0
-Turned W G h s w NoImage = rest W G h s w ≡ none
-Turned W G h s w (On v) = (rest W G h s w ≡ rest W G h (s + 1) v) × Kept G (length h) (s + 1) v
+-- a turn leaves what the walk comes to as it was, or tells that the shadow is no image
+abbrev pub Turned : (W G : ℕ) → List ℕ → (s : ℕ) → Walk → std.Option Walk → Type 0
+Turned W G h s w None = rest W G h s w ≡ none
+Turned W G h s w (Some v) = (rest W G h s w ≡ rest W G h (s + 1) v) × Kept G (length h) (s + 1) v

@@ -11,13 +11,6 @@ pub struct Walk {
     pub written: u32,
 }
 
-// What a turn comes to.
-#[derive(Clone, Copy)]
-pub enum Moved {
-    On(Walk),
-    NoImage,
-}
-
 // The walk as it stands at segment s, some turns ahead.
 #[derive(Clone, Copy)]
 pub struct Ahead {

@@ -1,1 +1,1 @@
-pub mod EndedLaws
+pub mod TellLaws

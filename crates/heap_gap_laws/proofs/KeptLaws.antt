@@ -16,8 +16,8 @@ use Rattle.heap_laws.specs.Scan.{prefer, scanned}
 use Rattle.heap_laws.proofs.ScanLaws.{scan-start, scan-gap, scan-full, scan-none}
 use Rattle.heap_gap.specs.declared.Scan.{Scan}
 use Rattle.heap_gap.specs.Scans as scans
-use Rattle.heap_gap.specs.Scans.{chosen_of, choice_of, is_better, turned}
-use Rattle.heap_gap_laws.specs.Pass.{choice, Tells, rest, Kept}
+use Rattle.heap_gap.specs.Scans.{chosen_of, choice_of, is_better, Tells, turned}
+use Rattle.heap_gap_laws.specs.Pass.{choice, rest, Kept}
 use Rattle.heap_gap_laws.proofs.RestLaws.{gap_to, rest-start, rest_end, rest-last, rest-free, rest-ends, rest-idle}
 
 not-true : (b : Bool) → not b ≡ true → b ≡ false
@@ -29,7 +29,7 @@ not-true false e = refl
 module _ (need k : ℕ) (g : Scan) (p : ℕ) where
   -- a gap that is looked at: chosen if it fits and is smaller than the one chosen so far
   picked : Test (is_better g need) → g.run ≢ 0
-      → chosen_of (cond (is_better g need) (record { looked = g.looked + 1; start = p - g.run; bytes = g.run; run = 0 }) (record { looked = g.looked + 1; start = g.start; bytes = g.bytes; run = 0 }))
+      → chosen_of (cond (is_better g need) (record { looked = g.looked + 1; start = p - g.run; bytes = g.run; run = 0 }) (record g { looked = g.looked + 1; run = 0 }))
       ≡ prefer (chosen_of g) (best need (gap_to p g.run ∷ []))
   unfolding best
   picked (is_true t) n =
@@ -95,7 +95,7 @@ module _ (need k : ℕ) (g : Scan) (p : ℕ) where
 
 -- n bytes more of free segments
 abbrev ran : Scan → (n : ℕ) → Scan
-ran g n = record { looked = g.looked; start = g.start; bytes = g.bytes; run = g.run + n }
+ran g n = record g { run = g.run + n }
 
 module _ {W G : ℕ} (h : List ℕ) (need k : ℕ) where
   pub kept-start : 0 < G → Kept W G h need k (record { looked = 0; start = 0; bytes = 0; run = 0 }) 0
@@ -176,8 +176,8 @@ module _ {W G : ℕ} (h : List ℕ) (need k : ℕ) where
       free (ran g (3 * G)) (ran g (4 * G)) (p + 3 * G) (p + 4 * G) d three (omega arith) l w u.1 (omega arith)
     where
       free : (g r : Scan) (p q w : ℕ) → Kept W G h need k g p → q ≡ p + G → q ≤ length h → Tells G h p w → eqb w 0 ≡ true → r.run ≡ g.run + G
-          → Kept W G h need k (record { looked = g.looked; start = g.start; bytes = g.bytes; run = r.run }) q
-      free g r p q w K e l x t f = kept_next g (record { looked = g.looked; start = g.start; bytes = g.bytes; run = r.run }) p q w K e l x (rw (t, f))
+          → Kept W G h need k (record g { run = r.run }) q
+      free g r p q w K e l x t f = kept_next g (record g { run = r.run }) p q w K e l x (rw (t, f))
 
   -- four at once that are not free, where no gap is open
   pub kept-idle : (g : Scan) (p a b c d : ℕ) → Kept W G h need k g p → p + 4 * G ≤ length h
@@ -196,4 +196,4 @@ module _ {W G : ℕ} (h : List ℕ) (need k : ℕ) where
       on : (p q w : ℕ) → Kept W G h need k g p → q ≡ p + G → q ≤ length h → Tells G h p w → eqb g.run 0 ≡ true → not (eqb w 0) ≡ true → Kept W G h need k g q
       on p q w K e l x r t =
           kept_next g g p q w K e l x
-          (ap (λ (n : ℕ). record { looked = g.looked; start = g.start; bytes = g.bytes; run = n }) (eqb-true g.run 0 r) ∙ rw (not-true (eqb w 0) t, r))
+          (ap (λ (n : ℕ). record g { run = n }) (eqb-true g.run 0 r) ∙ rw (not-true (eqb w 0) t, r))

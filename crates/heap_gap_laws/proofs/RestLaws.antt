@@ -1,5 +1,5 @@
 -- The gaps that are left at a position of the pass, segment by segment. Assumes nothing.
-use mathlib.Core.Path.{◌≡◌, sym, ap, ◌∙◌}
+use mathlib.Core.Path.{◌≡◌, ap, ◌∙◌}
 use mathlib.Core.Bool.{Bool, true, false}
 use mathlib.Core.Logic.{◌≢◌}
 use mathlib.Core.List.{List, [], ◌∷◌, ◌++◌}
@@ -8,29 +8,15 @@ use native.Mathlib.Omega.{arith}
 use native.Mathlib.Nat.{add-div_right, div-eq_of_lt, mul-sub, sub-zero, zero-div}
 use native.Mathlib.Numerals.{add-one}
 use lib.ListN.{length}
-use lib.Bits.{bit_or}
-use lib.Dec.{eqb}
-use Rattle.number.specs.Little.{word}
 use Rattle.number.specs.Parts.{at, zeros}
-use Rattle.number.proofs.BitLaws.{or-none}
-use Rattle.number.proofs.ZeroLaws.{zero_word, zeros-next}
 use Rattle.plain.specs.Gaps.{Gap, ended, gaps_after}
 use Rattle.plain.proofs.GapLaws.{gaps-free, gaps-taken}
 use Rattle.heap_layout.specs.Ops.{heap_gaps}
 use Rattle.heap_layout.proofs.SegmentLaws.{aligned-eq}
-use Rattle.heap_gap_laws.specs.Pass.{free, Tells, rest}
+use Rattle.heap_gap_laws.specs.Pass.{free, rest}
 
 abbrev pub gap_to : (p run : ℕ) → Gap
 gap_to p run = record { start = p - run; bytes = run }
-
--- the number in a segment tells whether it is free
-pub word-tells : {G : ℕ} {h : List ℕ} {p w : ℕ} → w ≡ word (at h) p G → Tells G h p w
-word-tells {G} {h} {p} {w} e = record { same = ap (λ (x : ℕ). eqb x 0) e ∙ zero_word (at h) p G }
-
--- so do those in its two halves, taken as one
-pub halves-tell : (W : ℕ) {h : List ℕ} {p a b : ℕ} → a ≡ word (at h) p W → b ≡ word (at h) (p + W) W → Tells (W + W) h p (bit_or a b)
-halves-tell W {h} {p} {a} {b} x y =
-    record { same = or-none a b ∙ rw (x, y, zero_word (at h) p W, zero_word (at h) (p + W) W) (sym (zeros-next (at h) p W W)) }
 
 module _ {G : ℕ} (some : 0 < G) where
   -- a segment further on

@@ -1,5 +1,5 @@
 -- The pass over the segments of a heap shadow, and what holds at each of its positions. Assumes nothing.
-use Rattle.std.specs.Prelude.{◌≡◌, Bool, List, ℕ, ◌+◌, ◌*◌, ◌-◌, ◌/◌, ◌%◌, ◌≤◌, ◌<◌, length, eqb}
+use Rattle.std.specs.Prelude.{◌≡◌, Bool, List, ℕ, ◌+◌, ◌*◌, ◌-◌, ◌/◌, ◌%◌, ◌≤◌, ◌<◌, length}
 use Rattle.std.proofs.Math.Option.{Option}
 use Rattle.number.specs.Parts.{at, zeros}
 use Rattle.plain.specs.Gaps.{Gap, gaps_after, best}
@@ -20,10 +20,6 @@ module _ (G : ℕ) (h : List ℕ) where
   -- the gaps that are left at position p, where `run` bytes of free segments end
   unfoldable pub rest : (p run : ℕ) → List Gap
   rest p run = gaps_after G 0 free ((length h - p) / G) (p / G) (run / G)
-
--- w is zero exactly if the segment at position p is free
-pub record Tells (G : ℕ) (h : List ℕ) (p w : ℕ) : Type 0 where
-  pub same : eqb w 0 ≡ zeros (at h) p G
 
 -- the pass stands at p: segments are whole, the gap that is chosen ends before the free segments begin, and what is chosen of the gaps that are left,
 -- beside what is chosen so far, is the choice

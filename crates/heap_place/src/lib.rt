@@ -12,10 +12,8 @@ use map::{Form, Position};
 fn place_length(form: Form, len: u32) -> usize
     ensures { result ≡ place_length (segment_size form) len }
 {
-    match form {
-        Form::Player => 8 + (len as usize + 7) / 8 * 8,
-        Form::Desk => 16 + (len as usize + 15) / 16 * 16,
-    }
+    let segment = form.segment();
+    segment + (len as usize + (segment - 1)) / segment * segment
 }
 
 // Whether each shadow byte of a block's place is zero.

@@ -1,15 +1,15 @@
 // The map of the areas, and the conversion between addresses and shadow positions.
 #![tactic(auto)]
 
-ghost use Rattle.std.specs.Prelude.{◌≡◌, ◌+◌, ◌-◌, ◌%◌, ◌<◌, ◌≤◌, ◌&&◌, ◌==◌, nat_le};
+ghost use Rattle.std.specs.Prelude.{◌≡◌, ◌+◌, ◌-◌, ◌*◌, ◌/◌, ◌%◌, ◌<◌, ◌≤◌, ◌&&◌, ◌==◌, nat_le};
 ghost use Rattle.map.specs.Map.{good_map, start_of, end_of};
-ghost use Rattle.map.specs.FormMap.{segment_size, under};
+ghost use Rattle.map.specs.FormMap.{number_size, segment_size, under};
 ghost use Rattle.map.specs.Locating.{Lies};
 
-#[derive(Clone, Copy)]
+#[derive(Clone, Copy, PartialEq, Eq)]
 pub struct Address(pub u32);
 
-#[derive(Clone, Copy)]
+#[derive(Clone, Copy, PartialEq, Eq)]
 pub struct Position(pub usize);
 
 #[derive(Clone, Copy)]
@@ -43,6 +43,16 @@ pub enum Located {
 }
 
 impl Form {
+    // The bytes of a number in the heap shadow.
+    pub fn number(self) -> usize
+        ensures { result ≡ number_size self }
+    {
+        match self {
+            Form::Player => 4,
+            Form::Desk => 8,
+        }
+    }
+
     // The bytes of a heap segment.
     pub fn segment(self) -> usize
         ensures { result ≡ segment_size self }
@@ -50,6 +60,16 @@ impl Form {
         match self {
             Form::Player => 8,
             Form::Desk => 16,
+        }
+    }
+
+    // The start of the segment that a position of the heap lies in.
+    pub fn start(self, at: usize) -> usize
+        ensures { result ≡ at / segment_size self * segment_size self }
+    {
+        match self {
+            Form::Player => at / 8 * 8,
+            Form::Desk => at / 16 * 16,
         }
     }
 
@@ -69,7 +89,7 @@ impl Form {
 pub fn to_position(a: Address, start: Address) -> Position
     ensures { (start.0 ≤ a.0 → result.0 ≡ a.0 - start.0) × (a.0 < start.0 → 4294967296 ≤ result.0) }
 {
-    Position(std::num::wrapping_sub_u64(a.0 as u64, start.0 as u64) as usize)
+    Position((a.0 as usize).wrapping_sub(start.0 as usize))
 }
 
 // The address of a shadow position of the area that begins at start.
@@ -80,14 +100,11 @@ pub fn to_address(p: Position, start: Address) -> Address
     Address(start.0 + p.0 as u32)
 }
 
-// Whether the heap's start and size are whole segments of the form, two at least.
-fn in_segments(form: Form, h: u64, n: u64) -> bool
+// Whether the heap's start and size are whole segments of the form, the size two at least.
+fn in_segments(form: Form, h: usize, n: usize) -> bool
     ensures { result ≡ (h % segment_size form == 0 && n % segment_size form == 0 && nat_le (segment_size form + segment_size form) n) }
 {
-    match form {
-        Form::Player => (h % 8 == 0) & (n % 8 == 0) & (16 <= n),
-        Form::Desk => (h % 16 == 0) & (n % 16 == 0) & (32 <= n),
-    }
+    form.whole(h) & form.whole(n) & (2 * form.segment() <= n)
 }
 
 // Whether an area does not begin at 0 and ends at or below another's start: of 0 the number below wraps, to above all starts.
@@ -95,7 +112,7 @@ fn below(start: u32, size: u64, other: u64) -> bool
     requires { (size < 4294967296) × (other < 4294967296) }
     ensures { result ≡ (nat_le 1 start && nat_le (start + size) other) }
 {
-    std::num::wrapping_sub_u32(start, 1) as u64 + size < other
+    start.wrapping_sub(1) as u64 + size < other
 }
 
 impl Map {
@@ -108,7 +125,8 @@ impl Map {
         let n = self.heap_size as u64;
         let s = self.stack_start as u64;
         let k = self.stack_size as u64;
-        let heap = in_segments(form, h, n) & (n <= 131072);
+        let heap = in_segments(form, self.heap_start as usize, self.heap_size as usize)
+            & (n <= 131072);
         let stack = (s % 8 == 0) & (k % 8 == 0) & (16 <= k) & (k <= 65536);
         if !(heap & stack) {
             return false;
@@ -138,7 +156,7 @@ impl Map {
         Located::Outside
     }
 
-    // Where an area begins: the origin of its positions.
+    // Where an area begins: the origin of its positions. Outside has none: 0, as the definition `start_of` in specs/ has it.
     pub fn start_of(self, k: Area) -> Address
         ensures { result.0 ≡ start_of self k }
     {
@@ -149,7 +167,7 @@ impl Map {
         }
     }
 
-    // The address after an area's last one, where it fits, as it does under a good map.
+    // The address after an area's last one, where it fits, as it does under a good map; 0 outside, as the definition `end_of` has it.
     pub fn end_of(self, k: Area) -> Address
         requires { (self.heap_start + self.heap_size ≤ 4294967295) × (self.stack_start + self.stack_size ≤ 4294967295) }
         ensures { result.0 ≡ end_of self k }

@@ -11,7 +11,7 @@ ghost use Rattle.monitor_read_laws.specs.Asked.{ask_reading, base_below};
 ghost use Rattle.plain.specs.Call as plain;
 
 use map::{Address, Form, Located, Map};
-use monitor_base::{Answer, guard};
+use monitor_base::{Answer, Refusal, guard};
 use plain::Reading;
 
 // What ask answers to a reading in the area that begins at start: of its two bits, the one for written.
@@ -20,15 +20,15 @@ fn told(r: Reading, start: Address) -> Answer
     ensures { answer_of result ≡ ask_reading (reading_up start.0 (reading_of r)) }
 {
     match r {
-        Reading::Nothing => guard::refusal(7),
-        Reading::Damaged => guard::refusal(8),
+        Reading::Nothing => guard::refusal(Refusal::NoBlock),
+        Reading::Damaged => guard::refusal(Refusal::Damaged),
         Reading::Block(base, length, offset, bits) => {
             Answer {
                 number: 0,
                 first: map::to_address(base, start).0,
                 second: length,
                 third: offset,
-                fourth: (bits as u32) & 1,
+                fourth: u32::from(bits & 1),
             }
         }
     }
@@ -46,16 +46,15 @@ pub fn ask(
     ensures { outcome result heap.now primary.now secondary.now
         ≡ call (under form map) (plain.ask a.0) (heap.now, (primary.now, secondary.now)) }
 {
-    let k = guard::checked(form, map, heap.len(), primary.len(), secondary.len());
-    if k != 0 {
-        return guard::refusal(k);
+    if let Err(refused) = guard::checked(form, map, heap.len(), primary.len(), secondary.len()) {
+        return guard::refusal(refused);
     }
     match map.locate(a) {
-        Located::Heap(p) => told(heap_forms::read(form, heap, p), Address(map.heap_start)),
+        Located::Heap(p) => told(heap_read::read(form, heap, p), Address(map.heap_start)),
         Located::Stack(p) => told(
             stack_read::read(primary, secondary, p),
             Address(map.stack_start),
         ),
-        Located::Outside => guard::refusal(4),
+        Located::Outside => guard::refusal(Refusal::Outside),
     }
 }

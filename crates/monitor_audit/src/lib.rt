@@ -9,30 +9,23 @@ ghost use Rattle.monitor_read_laws.specs.Audited.{audits_answer, sums_fit};
 ghost use Rattle.monitor_base.specs.Calls.{call};
 
 use map::{Form, Map};
-use monitor_base::{Answer, guard};
-use plain::Audit;
+use monitor_base::{Answer, Refusal, guard};
+use plain::Totals;
 
 // The totals of two audits, the heap's and the stack's, in one answer.
-fn joined(h: Audit, k: Audit) -> Answer
+fn joined(h: Option<Totals>, k: Option<Totals>) -> Answer
     requires { sums_fit h k }
     ensures { answer_of result ≡ audits_answer h k }
 {
-    match h {
-        Audit::NoImage => guard::refusal(8),
-        Audit::Totals(heaps, live, written) => {
-            match k {
-                Audit::NoImage => guard::refusal(8),
-                Audit::Totals(stacks, more, marked) => {
-                    Answer {
-                        number: 0,
-                        first: heaps,
-                        second: stacks,
-                        third: live + more,
-                        fourth: written + marked,
-                    }
-                }
-            }
-        }
+    match (h, k) {
+        (Some(heap), Some(stack)) => Answer {
+            number: 0,
+            first: heap.blocks,
+            second: stack.blocks,
+            third: heap.live + stack.live,
+            fourth: heap.written + stack.written,
+        },
+        _ => guard::refusal(Refusal::Damaged),
     }
 }
 
@@ -41,12 +34,11 @@ pub fn audit(form: Form, map: Map, heap: &[u8], primary: &[u8], secondary: &[u8]
     ensures { outcome result heap.now primary.now secondary.now
         ≡ call (under form map) plain.audit (heap.now, (primary.now, secondary.now)) }
 {
-    let k = guard::checked(form, map, heap.len(), primary.len(), secondary.len());
-    if k != 0 {
-        return guard::refusal(k);
+    if let Err(refused) = guard::checked(form, map, heap.len(), primary.len(), secondary.len()) {
+        return guard::refusal(refused);
     }
     joined(
-        heap_forms::audit(form, heap),
+        heap_audit::audit(form, heap),
         stack_audit::audit(primary, secondary),
     )
 }

@@ -4,7 +4,10 @@
 pub mod guard;
 pub mod locating;
 
-use map::{Address, Located, Position};
+ghost use Rattle.std.specs.Prelude.{◌≡◌};
+ghost use Rattle.monitor_base.specs.Refusals.{code_of};
+
+use map::{Address, Position};
 use plain::Beginning;
 
 // The number, 0 for accepted, and the answer fields in their order, zero where unused.
@@ -15,6 +18,60 @@ pub struct Answer {
     pub second: u32,
     pub third: u32,
     pub fourth: u32,
+}
+
+// Why a call is refused.
+#[derive(Clone, Copy, PartialEq, Eq)]
+pub enum Refusal {
+    // The map breaks a rule.
+    BadMap,
+    // A shadow or the cells have not the length that the map asks for.
+    BadLength,
+    // A length or a count of bytes is 0.
+    Empty,
+    // The address, or the block, lies in no area that may hold it.
+    Outside,
+    Misaligned,
+    // The block's place is not free.
+    Occupied,
+    NoBlock,
+    Damaged,
+    // The program has no shadows of the map's sizes.
+    TooLarge,
+    // A pointer cannot stand in the cell.
+    NoPointer,
+    // No origin is left for the block.
+    NoOrigin,
+    // A literal may not be written.
+    Literal,
+    // No gap fits.
+    NoGap,
+    // Of the stack nothing may be freed.
+    NotHeap,
+}
+
+impl Refusal {
+    // Its number in the answers.
+    pub fn number(self) -> u32
+        ensures { result ≡ code_of self }
+    {
+        match self {
+            Refusal::BadMap => 1,
+            Refusal::BadLength => 2,
+            Refusal::Empty => 3,
+            Refusal::Outside => 4,
+            Refusal::Misaligned => 5,
+            Refusal::Occupied => 6,
+            Refusal::NoBlock => 7,
+            Refusal::Damaged => 8,
+            Refusal::TooLarge => 10,
+            Refusal::NoPointer => 11,
+            Refusal::NoOrigin => 12,
+            Refusal::Literal => 13,
+            Refusal::NoGap => 14,
+            Refusal::NotHeap => 15,
+        }
+    }
 }
 
 // The calls that only read. Place, which the form with origins has not, is no Query: see PlainCall.
@@ -52,16 +109,9 @@ pub enum PlainCall {
     Place(u32, u32),
 }
 
-// What the check of a call that ends a block found: the block's position and length, or, where nothing is to be erased, the number.
+// The block that a call ends: its position and length.
 #[derive(Clone, Copy)]
-pub enum Ending {
-    Block(Position, u32),
-    Settled(u32),
-}
-
-// What the check of any other call that writes found: its number, and, where that is 0, where its address lies.
-#[derive(Clone, Copy)]
-pub struct Checked {
-    pub number: u32,
-    pub place: Located,
+pub struct Block {
+    pub base: Position,
+    pub length: u32,
 }

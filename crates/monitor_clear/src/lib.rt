@@ -21,12 +21,11 @@ pub fn clear(
     ensures { outcome result heap.new primary.new secondary.new
         ≡ call (under form map) plain.clear (heap.old, (primary.old, secondary.old)) }
 {
-    let k = guard::checked(form, map, heap.len(), primary.len(), secondary.len());
-    if k != 0 {
-        return guard::refusal(k);
+    if let Err(refused) = guard::checked(form, map, heap.len(), primary.len(), secondary.len()) {
+        return guard::refusal(refused);
     }
     number_zeros::fill_zero(heap);
     number_zeros::fill_zero(primary);
     number_zeros::fill_zero(secondary);
-    guard::refusal(0)
+    guard::accepted()
 }

@@ -47,7 +47,7 @@ pub fn past(form: Form, map: Map, heap: &[u8], primary: &[u8], a: Address, l: Lo
 {
     match l {
         Located::Heap(p) => map::to_address(
-            heap_forms::past_segments(form, heap, p),
+            heap_climb::past_segments(form, heap, p),
             Address(map.heap_start),
         ),
         Located::Stack(p) => map::to_address(

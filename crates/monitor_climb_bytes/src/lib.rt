@@ -7,7 +7,8 @@ ghost use Rattle.monitor_read_laws.specs.Climbed.{FreeBytes};
 
 use map::Position;
 
-// Past a position, and the bytes after it that are 0, as far as 64 and then eight bytes at a time show it.
+// Past a position, and the bytes after it that are 0, as far as 64 and then eight bytes at a time show it. Where a loop ends is its result,
+// so that a `for` would have to carry it out.
 pub fn past_bytes(primary: &[u8], p: Position) -> Position
     requires { (p.0 < length primary.now) × (length primary.now ≤ 65536) }
     ensures { FreeBytes (length primary.now) (at primary.now) p.0 result.0 }

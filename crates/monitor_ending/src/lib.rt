@@ -6,21 +6,21 @@ ghost use Rattle.plain.specs.Answers.{reading_of};
 ghost use Rattle.monitor_write_laws.specs.Checks.{ending_of};
 
 use map::Position;
-use monitor_base::Ending;
+use monitor_base::{Block, Refusal};
 use plain::Reading;
 
 // By the reading at its base: only a block's first byte is accepted.
-pub fn ending(r: Reading, base: Position) -> Ending
+pub fn ending(r: Reading, base: Position) -> Result<Block, Refusal>
     ensures { result ≡ ending_of (reading_of r) base }
 {
     match r {
-        Reading::Nothing => Ending::Settled(7),
-        Reading::Damaged => Ending::Settled(8),
+        Reading::Nothing => Err(Refusal::NoBlock),
+        Reading::Damaged => Err(Refusal::Damaged),
         Reading::Block(_, length, offset, _) => {
             if offset != 0 {
-                return Ending::Settled(7);
+                return Err(Refusal::NoBlock);
             }
-            Ending::Block(base, length)
+            Ok(Block { base, length })
         }
     }
 }

@@ -8,8 +8,8 @@ ghost use Rattle.monitor_base.specs.Calls.{call};
 ghost use Rattle.plain.specs.Call as plain;
 
 use map::{Address, Form, Map};
-use monitor_base::guard::{checked, refusal};
-use monitor_base::{Answer, Ending};
+use monitor_base::Answer;
+use monitor_base::guard::{accepted, checked, refusal};
 use monitor_free_check::check;
 
 // Zeroes the shadow of the block and of its header. Address 0, C's null pointer, is accepted and nothing changes; of the stack nothing may be freed.
@@ -24,15 +24,15 @@ pub fn free(
     ensures { outcome result heap.new primary.now secondary.now
         ≡ call (under form map) (plain.free base.0) (heap.old, (primary.now, secondary.now)) }
 {
-    let k = checked(form, map, heap.len(), primary.len(), secondary.len());
-    if k != 0 {
-        return refusal(k);
+    if let Err(refused) = checked(form, map, heap.len(), primary.len(), secondary.len()) {
+        return refusal(refused);
     }
     match check(form, map, heap, primary, secondary, base) {
-        Ending::Block(p, length) => {
-            heap_place::erase(form, heap, p, length);
-            refusal(0)
+        Ok(Some(block)) => {
+            heap_place::erase(form, heap, block.base, block.length);
+            accepted()
         }
-        Ending::Settled(number) => refusal(number),
+        Ok(None) => accepted(),
+        Err(refused) => refusal(refused),
     }
 }

@@ -10,10 +10,10 @@ ghost use Rattle.monitor_base.specs.Calls.{call};
 ghost use Rattle.monitor_write_laws.specs.Checks.{freed_by, Freeable};
 
 use map::{Address, Form, Located, Map};
-use monitor_base::Ending;
+use monitor_base::{Block, Refusal};
 use monitor_ending::ending;
 
-// Only the first byte of a heap block is accepted, and C's null pointer.
+// Only the first byte of a heap block is accepted, and C's null pointer, for which nothing is to be erased.
 pub fn check(
     form: Form,
     map: Map,
@@ -21,21 +21,21 @@ pub fn check(
     primary: &[u8],
     secondary: &[u8],
     base: Address,
-) -> Ending
+) -> Result<Option<Block>, Refusal>
     requires { (good_map (under form map) ≡ true) × (lengths_fit (under form map) (heap.now, (primary.now, secondary.now)) ≡ true) }
     ensures { (freed_by (number_size form) (segment_size form) (heap.now, (primary.now, secondary.now)) result
         ≡ call (under form map) (plain.free base.0) (heap.now, (primary.now, secondary.now)))
         × Freeable (under form map) (heap.now, (primary.now, secondary.now)) base.0 result }
 {
     match map.locate(base) {
-        Located::Heap(p) => ending(heap_forms::read(form, heap, p), p),
-        Located::Stack(_) => Ending::Settled(15),
+        Located::Heap(p) => Ok(Some(ending(heap_read::read(form, heap, p), p)?)),
+        Located::Stack(_) => Err(Refusal::NotHeap),
         Located::Outside => {
             // C's null pointer, which no area holds: there is nothing to free.
             if base.0 == 0 {
-                return Ending::Settled(0);
+                return Ok(None);
             }
-            Ending::Settled(4)
+            Err(Refusal::Outside)
         }
     }
 }

@@ -15,7 +15,7 @@ ghost use Rattle.monitor_base.specs.Calls.{call};
 ghost use Rattle.monitor_read_laws.specs.Asked.{initialised_answer};
 
 use map::{Address, Form, Located, Map, Position};
-use monitor_base::{Answer, guard};
+use monitor_base::{Answer, Refusal, guard};
 use plain::Reading;
 
 // In the heap.
@@ -24,9 +24,9 @@ fn written_heap(form: Form, heap: &[u8], p: Position, n: u32) -> Answer
     ensures { answer_of result ≡ initialised_answer n (heap_reading (number_size form) (segment_size form) (length heap.now) (at heap.now) p.0)
         (range_marked (heap_ops (number_size form) (segment_size form) (length heap.now)) heap.now p.0 n) }
 {
-    let first = heap_forms::read(form, heap, p);
+    let first = heap_read::read(form, heap, p);
     if monitor_reading::in_one(first, n) {
-        return monitor_yes_no::yes_no(heap_forms::marked(form, heap, p, n));
+        return monitor_yes_no::yes_no(heap_marked::marked(form, heap, p, n));
     }
     monitor_yes_no::apart(first, Reading::Nothing)
 }
@@ -61,12 +61,11 @@ pub fn initialised(
     ensures { outcome result heap.now primary.now secondary.now
         ≡ call (under form map) (plain.initialised a.0 n) (heap.now, (primary.now, secondary.now)) }
 {
-    let k = guard::checked(form, map, heap.len(), primary.len(), secondary.len());
-    if k != 0 {
-        return guard::refusal(k);
+    if let Err(refused) = guard::checked(form, map, heap.len(), primary.len(), secondary.len()) {
+        return guard::refusal(refused);
     }
     if n == 0 {
-        return guard::refusal(3);
+        return guard::refusal(Refusal::Empty);
     }
     match map.locate(a) {
         Located::Heap(p) => written_heap(form, heap, p, n),

@@ -15,7 +15,7 @@ pub fn mark(form: Form, heap: &mut [u8], primary: &mut [u8], place: Located, n: 
         (marked_at (number_size form) (segment_size form) place n (heap.old, (primary.old, S))) }
 {
     match place {
-        Located::Heap(p) => heap_forms::mark(form, heap, p, n),
+        Located::Heap(p) => heap_mark::mark(form, heap, p, n),
         Located::Stack(p) => stack_mark::mark(primary, p, n),
         Located::Outside => {}
     }

@@ -12,7 +12,7 @@ ghost use Rattle.monitor_place.specs.Room.{Fits};
 
 use heap_gap::Scan;
 use map::{Address, Form, Map, Position};
-use monitor_base::{Answer, guard};
+use monitor_base::{Answer, Refusal, guard};
 
 // The base in the gap that is chosen, its second segment; the gaps looked at; the gap's bytes less those that header and block take.
 fn answered(form: Form, start: Address, len: u32, g: Scan) -> Answer
@@ -20,11 +20,11 @@ fn answered(form: Form, start: Address, len: u32, g: Scan) -> Answer
     ensures { answer_of result ≡ room_answer (segment_size form) start.0 len g.looked (chosen_of g) }
 {
     if g.bytes == 0 {
-        return guard::refusal(14);
+        return guard::refusal(Refusal::NoGap);
     }
     let second = g.start + form.segment();
     let base = map::to_address(Position(second), start);
-    let left = g.bytes as u64 - heap_forms::needed(form, len);
+    let left = g.bytes as u64 - heap_gap::needed(form, len);
     let surplus = left as u32;
     Answer {
         number: 0,
@@ -48,17 +48,16 @@ pub fn place(
     ensures { outcome result heap.now primary.now secondary.now
         ≡ call (under form map) (plain.place length budget) (heap.now, (primary.now, secondary.now)) }
 {
-    let k = guard::checked(form, map, heap.len(), primary.len(), secondary.len());
-    if k != 0 {
-        return guard::refusal(k);
+    if let Err(refused) = guard::checked(form, map, heap.len(), primary.len(), secondary.len()) {
+        return guard::refusal(refused);
     }
     if length == 0 {
-        return guard::refusal(3);
+        return guard::refusal(Refusal::Empty);
     }
     answered(
         form,
         Address(map.heap_start),
         length,
-        heap_forms::choose(form, heap, length, budget),
+        heap_gaps::choose(form, heap, length, budget),
     )
 }

@@ -5,43 +5,22 @@ ghost use Rattle.std.specs.Prelude.{◌≡◌, cond};
 ghost use Rattle.map.specs.FormMap.{number_size, segment_size};
 ghost use Rattle.plain.specs.Answers.{reading_of};
 ghost use Rattle.plain.specs.ShadowCalls.{is_damaged, is_first, in_one, length_of};
+ghost use Rattle.monitor_base.specs.Refusals.{code_of};
 ghost use Rattle.monitor_read_laws.specs.Asked.{There, reading_at};
 
 use map::{Form, Located};
+use monitor_base::Refusal;
 use plain::Reading;
 
-// The player's, by positions: in the heap, in the stack, or nothing outside both.
-fn player(heap: &[u8], primary: &[u8], secondary: &[u8], l: Located) -> Reading
-    requires { There 8 l heap.now primary.now secondary.now }
-    ensures { reading_of result ≡ reading_at 4 8 l heap.now primary.now secondary.now }
-{
-    match l {
-        Located::Heap(p) => heap_read::read(heap, p),
-        Located::Stack(p) => stack_read::read(primary, secondary, p),
-        Located::Outside => Reading::Nothing,
-    }
-}
-
-// The desk's.
-fn desk(heap: &[u8], primary: &[u8], secondary: &[u8], l: Located) -> Reading
-    requires { There 16 l heap.now primary.now secondary.now }
-    ensures { reading_of result ≡ reading_at 8 16 l heap.now primary.now secondary.now }
-{
-    match l {
-        Located::Heap(p) => desk_read::read(heap, p),
-        Located::Stack(p) => stack_read::read(primary, secondary, p),
-        Located::Outside => Reading::Nothing,
-    }
-}
-
-// The form is asked for first: in a library it is a constant, and one of the two functions is left.
+// By positions: in the heap, in the stack, or nothing outside both.
 pub fn reading(form: Form, heap: &[u8], primary: &[u8], secondary: &[u8], l: Located) -> Reading
     requires { There (segment_size form) l heap.now primary.now secondary.now }
     ensures { reading_of result ≡ reading_at (number_size form) (segment_size form) l heap.now primary.now secondary.now }
 {
-    match form {
-        Form::Player => player(heap, primary, secondary, l),
-        Form::Desk => desk(heap, primary, secondary, l),
+    match l {
+        Located::Heap(p) => heap_read::read(form, heap, p),
+        Located::Stack(p) => stack_read::read(primary, secondary, p),
+        Located::Outside => Reading::Nothing,
     }
 }
 
@@ -50,19 +29,17 @@ pub fn damaged(r: Reading) -> bool
 {
     match r {
         Reading::Damaged => true,
-        Reading::Nothing => false,
-        Reading::Block(_, _, _, _) => false,
+        Reading::Nothing | Reading::Block(_, _, _, _) => false,
     }
 }
 
-// The number where it gives no block that is asked for: 8 where it is damaged, else 7.
-pub fn missing(r: Reading) -> u32
-    ensures { result ≡ cond (is_damaged (reading_of r)) 8 7 }
+// The refusal where it gives no block that is asked for.
+pub fn missing(r: Reading) -> Refusal
+    ensures { code_of result ≡ cond (is_damaged (reading_of r)) 8 7 }
 {
     match r {
-        Reading::Damaged => 8,
-        Reading::Nothing => 7,
-        Reading::Block(_, _, _, _) => 7,
+        Reading::Damaged => Refusal::Damaged,
+        Reading::Nothing | Reading::Block(_, _, _, _) => Refusal::NoBlock,
     }
 }
 
@@ -71,8 +48,7 @@ pub fn first(r: Reading) -> bool
     ensures { result ≡ is_first (reading_of r) }
 {
     match r {
-        Reading::Damaged => false,
-        Reading::Nothing => false,
+        Reading::Damaged | Reading::Nothing => false,
         Reading::Block(_, _, offset, _) => offset == 0,
     }
 }
@@ -82,8 +58,7 @@ pub fn length_of(r: Reading) -> u32
     ensures { result ≡ length_of (reading_of r) }
 {
     match r {
-        Reading::Nothing => 0,
-        Reading::Damaged => 0,
+        Reading::Nothing | Reading::Damaged => 0,
         Reading::Block(_, length, _, _) => length,
     }
 }
@@ -93,8 +68,7 @@ pub fn in_one(r: Reading, n: u32) -> bool
     ensures { result ≡ in_one n (reading_of r) }
 {
     match r {
-        Reading::Damaged => false,
-        Reading::Nothing => false,
+        Reading::Damaged | Reading::Nothing => false,
         Reading::Block(_, length, offset, _) => offset as u64 + n as u64 <= length as u64,
     }
 }

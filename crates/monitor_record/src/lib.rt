@@ -6,16 +6,17 @@ ghost use Rattle.map.specs.FormMap.{under};
 ghost use Rattle.shadows.specs.Shadows.{Shadows};
 ghost use Rattle.monitor_base.specs.Answers.{outcome};
 ghost use Rattle.monitor_base.specs.Calls.{call};
+ghost use Rattle.monitor_base.specs.Refusals.{told_of};
 ghost use Rattle.plain.specs.Call as plain;
 
 use map::{Address, Form, Map};
-use monitor_base::{Answer, Checked, guard};
+use monitor_base::{Answer, Refusal, guard};
 use monitor_record_check::check;
 use monitor_stamp::stamp;
 use plain::Beginning;
 
-// The number alone: an answer in memory would cost more than the check.
-fn numbered(
+// Whether it was accepted, alone: an answer in memory would cost more than the check.
+fn recorded(
     form: Form,
     map: Map,
     heap: &mut [u8],
@@ -24,15 +25,13 @@ fn numbered(
     base: Address,
     len: u32,
     how: Beginning,
-) -> u32
-    ensures { ◌≡◌ {A = Shadows × plain.Answer} ((heap.new, (primary.new, secondary.new)), plain.refusal result)
+) -> Result<(), Refusal>
+    ensures { ◌≡◌ {A = Shadows × plain.Answer} ((heap.new, (primary.new, secondary.new)), plain.refusal (told_of result))
         (call (under form map) (plain.begin how base.0 len) (heap.old, (primary.old, secondary.old))) }
 {
-    let Checked { number, place } = check(form, map, heap, primary, secondary, base, len, how);
-    if number == 0 {
-        stamp(form, heap, primary, secondary, place, len, how);
-    }
-    number
+    let place = check(form, map, heap, primary, secondary, base, len, how)?;
+    stamp(form, heap, primary, secondary, place, len, how);
+    Ok(())
 }
 
 // The block joins: no byte written, every byte, or as a literal.
@@ -49,5 +48,5 @@ pub fn begin(
     ensures { outcome result heap.new primary.new secondary.new
         ≡ call (under form map) (plain.begin how base.0 len) (heap.old, (primary.old, secondary.old)) }
 {
-    guard::refusal(numbered(form, map, heap, primary, secondary, base, len, how))
+    guard::settled(recorded(form, map, heap, primary, secondary, base, len, how))
 }

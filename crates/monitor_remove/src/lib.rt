@@ -8,8 +8,8 @@ ghost use Rattle.monitor_base.specs.Calls.{call};
 ghost use Rattle.plain.specs.Call as plain;
 
 use map::{Address, Form, Map};
-use monitor_base::guard::{checked, refusal};
-use monitor_base::{Answer, Ending};
+use monitor_base::Answer;
+use monitor_base::guard::{accepted, checked, refusal};
 use monitor_remove_check::check;
 
 // Zeroes both shadows of the block, a literal's too.
@@ -24,15 +24,14 @@ pub fn remove(
     ensures { outcome result heap.now primary.new secondary.new
         ≡ call (under form map) (plain.remove base.0) (heap.now, (primary.old, secondary.old)) }
 {
-    let k = checked(form, map, heap.len(), primary.len(), secondary.len());
-    if k != 0 {
-        return refusal(k);
+    if let Err(refused) = checked(form, map, heap.len(), primary.len(), secondary.len()) {
+        return refusal(refused);
     }
     match check(form, map, heap, primary, secondary, base) {
-        Ending::Block(p, length) => {
-            stack_place::erase(primary, secondary, p, length);
-            refusal(0)
+        Ok(block) => {
+            stack_place::erase(primary, secondary, block.base, block.length);
+            accepted()
         }
-        Ending::Settled(number) => refusal(number),
+        Err(refused) => refusal(refused),
     }
 }

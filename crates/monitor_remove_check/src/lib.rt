@@ -10,7 +10,7 @@ ghost use Rattle.monitor_base.specs.Calls.{call};
 ghost use Rattle.monitor_write_laws.specs.Checks.{removed_by, Removable};
 
 use map::{Address, Form, Located, Map};
-use monitor_base::Ending;
+use monitor_base::{Block, Refusal};
 use monitor_ending::ending;
 
 // Only the first byte of a stack block is accepted.
@@ -21,7 +21,7 @@ pub fn check(
     primary: &[u8],
     secondary: &[u8],
     base: Address,
-) -> Ending
+) -> Result<Block, Refusal>
     requires { (good_map (under form map) ≡ true) × (lengths_fit (under form map) (heap.now, (primary.now, secondary.now)) ≡ true) }
     ensures { (removed_by (heap.now, (primary.now, secondary.now)) result
         ≡ call (under form map) (plain.remove base.0) (heap.now, (primary.now, secondary.now)))
@@ -30,13 +30,13 @@ pub fn check(
     match map.locate(base) {
         Located::Stack(p) => {
             // A block of four or eight bytes needs no reading.
-            let n = stack_whole_first::length_at(primary, p);
-            if n != 0 {
-                return Ending::Block(p, n);
+            if let Some(length) = stack_whole_first::length_at(primary, p) {
+                return Ok(Block { base: p, length });
             }
             ending(stack_read::read(primary, secondary, p), p)
         }
-        Located::Heap(_) => Ending::Settled(4),
-        Located::Outside => Ending::Settled(4),
+        // Two arms, each proved by its own area: a block of the heap is freed, not removed.
+        Located::Heap(_) => Err(Refusal::Outside),
+        Located::Outside => Err(Refusal::Outside),
     }
 }

@@ -24,7 +24,7 @@ pub fn stamp(
         (stamped_at (number_size form) (segment_size form) place how len (heap.old, (primary.old, secondary.old))) }
 {
     match place {
-        Located::Heap(p) => heap_forms::stamp(form, heap, p, len, how),
+        Located::Heap(p) => heap_stamp::stamp(form, heap, p, len, how),
         Located::Stack(p) => stack_stamp::stamp(primary, secondary, p, len, how),
         Located::Outside => {}
     }

@@ -18,7 +18,7 @@ ghost use Rattle.monitor_base.specs.Calls.{call};
 ghost use Rattle.monitor_read_laws.specs.Asked.{valid_answer};
 
 use map::{Address, Form, Located, Map, Position};
-use monitor_base::{Answer, guard};
+use monitor_base::{Answer, Refusal, guard};
 use plain::Reading;
 
 // What valid answers where the first of n bytes lies in the heap, which holds no literal: write plays no part.
@@ -36,10 +36,10 @@ fn valid_heap(
     ensures { (write : Bool) → answer_of result ≡ valid_answer write n (reading_up map.heap_start (heap_reading (number_size form) (segment_size form) (length heap.now) (at heap.now) p.0))
         (read_any (map_rules (under form map)) (shadow_ops (under form map)) (heap.now, (primary.now, secondary.now)) from.0) }
 {
-    let first = heap_forms::read(form, heap, p);
+    let first = heap_read::read(form, heap, p);
     match map.locate(from) {
         Located::Heap(q) => {
-            monitor_yes_no::judged(first, n, heap_forms::read(form, heap, q), false)
+            monitor_yes_no::judged(first, n, heap_read::read(form, heap, q), false)
         }
         Located::Stack(q) => monitor_yes_no::apart(first, stack_read::read(primary, secondary, q)),
         Located::Outside => monitor_yes_no::apart(first, Reading::Nothing),
@@ -68,7 +68,7 @@ fn valid_stack(
         Located::Stack(q) => {
             monitor_yes_no::judged(first, n, stack_read::read(primary, secondary, q), write)
         }
-        Located::Heap(q) => monitor_yes_no::apart(first, heap_forms::read(form, heap, q)),
+        Located::Heap(q) => monitor_yes_no::apart(first, heap_read::read(form, heap, q)),
         Located::Outside => monitor_yes_no::apart(first, Reading::Nothing),
     }
 }
@@ -87,10 +87,7 @@ fn valid_outside(
         (read_any (map_rules (under form map)) (shadow_ops (under form map)) (heap.now, (primary.now, secondary.now)) from.0) }
 {
     match map.locate(from) {
-        Located::Heap(q) => monitor_yes_no::apart(
-            Reading::Nothing,
-            heap_forms::read(form, heap, q),
-        ),
+        Located::Heap(q) => monitor_yes_no::apart(Reading::Nothing, heap_read::read(form, heap, q)),
         Located::Stack(q) => monitor_yes_no::apart(
             Reading::Nothing,
             stack_read::read(primary, secondary, q),
@@ -115,12 +112,11 @@ pub fn valid(
     ensures { outcome result heap.now primary.now secondary.now
         ≡ call (under form map) (plain.valid write a.0 n from.0) (heap.now, (primary.now, secondary.now)) }
 {
-    let k = guard::checked(form, map, heap.len(), primary.len(), secondary.len());
-    if k != 0 {
-        return guard::refusal(k);
+    if let Err(refused) = guard::checked(form, map, heap.len(), primary.len(), secondary.len()) {
+        return guard::refusal(refused);
     }
     if n == 0 {
-        return guard::refusal(3);
+        return guard::refusal(Refusal::Empty);
     }
     if a.0 == from.0 {
         return monitor_valid_alone::alone(form, map, heap, primary, secondary, a, n, write);

@@ -32,7 +32,7 @@ pub fn alone(
 {
     match map.locate(a) {
         Located::Heap(p) => {
-            let r = heap_forms::read(form, heap, p);
+            let r = heap_read::read(form, heap, p);
             judged(r, n, r, false)
         }
         Located::Stack(p) => {

@@ -2,9 +2,10 @@
 use mathlib.Core.Path.{◌≡◌, refl, sym, ap, ◌∙◌}
 use mathlib.Core.Bool.{true}
 use mathlib.Core.Logic.{◌≢◌}
-use Prim.Native.Nat.{ℕ, zero, suc, ◌-◌}
+use Prim.Native.Nat.{ℕ, zero, suc}
 use native.Mathlib.Omega.{arith}
 use lib.ListN.{length}
+use Rattle.std.specs.Prelude.{Option, Some, Result, Ok, Err}
 use borrow.Author.Tests.{ne_eqb}
 use Rattle.number.specs.Parts.{at}
 use Rattle.number.proofs.TestLaws.{and_false_r}
@@ -19,15 +20,18 @@ use Rattle.plain.specs.Reading.{Reading, nothing, block, damaged}
 use Rattle.plain.specs.Lift.{reading_up}
 use Rattle.plain.specs.Call.{Answer, free, remove, refusal}
 use Rattle.plain.specs.ShadowCalls.{length_of}
+use Rattle.heap_layout.specs.Ops.{heap_erase}
 use Rattle.heap_layout.specs.Reading.{heap_reading}
 use Rattle.stack_layout.specs.Reading.{stack_reading}
 use Rattle.shadows.specs.Shadows.{Shadows, lengths_fit, shadow_ops}
 use Rattle.map.specs.Locating.{Lies}
 use Rattle.monitor_base.specs.Calls.{call}
 use Rattle.map.specs.declared.Located.TheVariants.{Heap, Stack}
+use Rattle.monitor_base.specs.declared.Block.{Block}
+use Rattle.monitor_base.specs.declared.Refusal.{Refusal}
 use Rattle.monitor_base.proofs.CallLaws.{call_step}
 use Rattle.monitor_base.proofs.LocatingLaws.{heap-there, stack-there, read-heap, read-stack, out-inside}
-use Rattle.monitor_write_laws.specs.Checks.{ending_of, freed_by, removed_by, block_length, Freeable, Removable}
+use Rattle.monitor_write_laws.specs.Checks.{ending_of, ended_by, freed_by, removed_by, block_length, Freeable, Removable}
 use Rattle.monitor_write_laws.proofs.StepLaws.{free-reads, free-4, free-15, free-null, remove-reads, remove-4}
 use Rattle.monitor_write_laws.proofs.AtLaws.{there, ended_at}
 use Rattle.monitor_write_laws.proofs.AreaLaws.{heap-at, stack_at, heap-first, stack-first}
@@ -37,6 +41,15 @@ up-length : (start : ℕ) (r : Reading) → length_of (reading_up start r) ≡ l
 up-length start nothing = refl
 up-length start (block b l o w t) = refl
 up-length start damaged = refl
+
+-- a free that found a block to erase, or why none may end
+abbrev pub found : Result Block Refusal → Result (Option Block) Refusal
+found (Ok b) = Ok (Some b)
+found (Err r) = Err r
+
+freed-found : (W G : ℕ) (s : Shadows) (r : Result Block Refusal) → ended_by (λ p l. (heap_erase W G s.0 p l, s.1)) s r ≡ freed_by W G s (found r)
+freed-found W G s (Ok b) = refl
+freed-found W G s (Err r) = refl
 
 module _ (m : FormMap) (s : Shadows) (a : ℕ) (ok : good_map m ≡ true) (fit : lengths_fit m s ≡ true) where
   abbrev heap_read : (p : ℕ) → Reading
@@ -64,20 +77,21 @@ module _ (m : FormMap) (s : Shadows) (a : ℕ) (ok : good_map m ≡ true) (fit :
       sym (call_step m (free a) s ok fit
       ∙ free-15 (map_rules m) (shadow_ops m) s a (no-null area.Stack e (λ z. let c : ◌≡◌ {A = ℕ} 0 1 = cc in omega arith)) i.inside i.heap)
 
-  pub heap-freed : (p : Position) → Lies (areas m) a (Heap p) → freed_by m.width m.segment s (ending_of (heap_read p.0) p) ≡ call m (free a) s
+  pub heap-freed : (p : Position) → Lies (areas m) a (Heap p) → freed_by m.width m.segment s (found (ending_of (heap_read p.0) p)) ≡ call m (free a) s
   heap-freed p (e, q) =
       let i = heap-at m s ok fit a p.0 e q in
       sym (call_step m (free a) s ok fit
       ∙ free-reads (map_rules m) (shadow_ops m) s a (no-null area.Heap e (λ z. let c : ◌≡◌ {A = ℕ} 0 1 = cc in omega arith)) i.inside i.heap _ (there _ _ _ _ _ _ _ _ _ i)
-      ∙ ended_at _ _ _ _ _ _ _ _ _ i p refl (heap_read p.0))
+      ∙ ended_at _ _ _ _ _ _ _ _ _ i p refl (heap_read p.0)
+      ∙ freed-found m.width m.segment s (ending_of (heap_read p.0) p))
 
-  pub freeable : (p : Position) → Lies (areas m) a (Heap p) → Freeable m s a (ending_of (heap_read p.0) p)
+  pub freeable : (p : Position) → Lies (areas m) a (Heap p) → Freeable m s a (found (ending_of (heap_read p.0) p))
   freeable p (e, q) = go (heap_read p.0) refl
     where
-      go : (r : Reading) → heap_read p.0 ≡ r → Freeable m s a (ending_of r p)
-      go nothing h = λ z. absurd (omega arith)
-      go damaged h = λ z. absurd (omega arith)
-      go (block b l (suc o) w k) h = rw (ne_eqb (suc o) 0 (omega arith)) (λ z. absurd (omega arith))
+      go : (r : Reading) → heap_read p.0 ≡ r → Freeable m s a (found (ending_of r p))
+      go nothing h = λ z. omega arith
+      go damaged h = λ z. omega arith
+      go (block b l (suc o) w k) h = rw (ne_eqb (suc o) 0 (omega arith)) (λ z. omega arith)
       go (block b l zero w k) h =
           let t = heap-first m.width m.segment (length s.0) (at s.0) p.0 b l w k h in
           let u = heap-there m s ok fit a p.0 e q in

@@ -1,5 +1,5 @@
 -- A call that writes is a check, which only reads, and an effect at the place that the check found. Assumes nothing.
-use Rattle.std.specs.Prelude.{◌≡◌, true, cond, ◌≢◌, List, ℕ, ◌+◌, ◌%◌, ◌≤◌, length, eqb}
+use Rattle.std.specs.Prelude.{◌≡◌, true, cond, ◌≢◌, List, ℕ, ◌+◌, ◌%◌, ◌≤◌, length, eqb, Option, Some, None, Result, Ok, Err}
 use Rattle.map.specs.FormMap.{FormMap, areas}
 use Rattle.map.specs.declared.Position.{Position}
 use Rattle.types.specs.declared.Beginning.{Beginning}
@@ -14,8 +14,10 @@ use Rattle.stack_layout.specs.Ops.{stack_ops, stack_vacant, stack_stamp, stack_e
 use Rattle.shadows.specs.Shadows.{Shadows, shadow_ops}
 use Rattle.monitor_base.specs.Calls.{call}
 use Rattle.map.specs.Locating.{Lies}
-use Rattle.monitor_base.specs.declared.Ending.{Ending}
-use Rattle.monitor_base.specs.declared.Ending.TheVariants.{Block, Settled}
+use Rattle.monitor_base.specs.declared.Block.{Block}
+use Rattle.monitor_base.specs.declared.Refusal.{Refusal}
+use Rattle.monitor_base.specs.declared.Refusal.TheVariants.{NoBlock, Damaged}
+use Rattle.monitor_base.specs.Refusals.{code_of}
 use Rattle.map.specs.declared.Located.{Located}
 use Rattle.map.specs.declared.Located.TheVariants.{Heap, Stack, Outside}
 
@@ -45,22 +47,24 @@ stamped_at W G Outside how l s = s
 
 -- ---- a free, and a remove
 
--- what a reading at a position says of a block that is to end there: its own first byte, or the number
-abbrev pub ending_of : Reading → Position → Ending
-ending_of nothing p = Settled 7
-ending_of (block b l o w t) p = cond (eqb o 0) (Block p l) (Settled 7)
-ending_of damaged p = Settled 8
+-- what a reading at a position says of a block that is to end there: its own first byte, or why none may end
+abbrev pub ending_of : Reading → Position → Result Block Refusal
+ending_of nothing p = Err NoBlock
+ending_of (block b l o w t) p = cond (eqb o 0) (Ok (record { base = p; length = l })) (Err NoBlock)
+ending_of damaged p = Err Damaged
 
 -- what a call comes to by what its check found, where `erase` empties a place
-abbrev pub ended_by : {S : Type 0} → (erase : (p l : ℕ) → S) → S → Ending → S × Answer
-ended_by erase s (Block p l) = (erase p.0 l, done)
-ended_by erase s (Settled k) = (s, refusal k)
+abbrev pub ended_by : {S : Type 0} → (erase : (p l : ℕ) → S) → S → Result Block Refusal → S × Answer
+ended_by erase s (Ok b) = (erase b.base.0 b.length, done)
+ended_by erase s (Err r) = (s, refusal (code_of r))
 
--- a free, in the heap; a remove, in the stack
-abbrev pub freed_by : (W G : ℕ) → Shadows → Ending → Shadows × Answer
-freed_by W G s = ended_by (λ p l. (heap_erase W G s.0 p l, s.1)) s
+-- a free, in the heap, where there may be nothing to erase; a remove, in the stack
+abbrev pub freed_by : (W G : ℕ) → Shadows → Result (Option Block) Refusal → Shadows × Answer
+freed_by W G s (Ok (Some b)) = ((heap_erase W G s.0 b.base.0 b.length, s.1), done)
+freed_by W G s (Ok None) = (s, done)
+freed_by W G s (Err r) = (s, refusal (code_of r))
 
-abbrev pub removed_by : Shadows → Ending → Shadows × Answer
+abbrev pub removed_by : Shadows → Result Block Refusal → Shadows × Answer
 removed_by s = ended_by (λ p l. (s.0, stack_erase s.1 p l)) s
 
 -- the length of the block that is read at an address, 0 where none is
@@ -68,18 +72,19 @@ abbrev pub block_length : FormMap → Shadows → (a : ℕ) → ℕ
 block_length m s a = length_of (read_any (map_rules m) (shadow_ops m) s a)
 
 -- a block that was found is that of the address, and can be erased there; else only a free of C's null pointer is accepted, and no remove
-abbrev pub Freeable : FormMap → Shadows → (a : ℕ) → Ending → Type 0
-Freeable m s a (Block p l) =
-    (Lies (areas m) a (Heap p) × (l ≡ block_length m s a))
-    × ((m.segment ≤ p.0) × (p.0 % m.segment ≡ 0) × (p.0 + l ≤ length s.0))
-    × ((1 ≤ l) × (length s.0 % m.segment ≡ 0) × (length s.0 ≤ 131072))
-Freeable m s a (Settled k) = k ≡ 0 → a ≡ 0
+abbrev pub Freeable : FormMap → Shadows → (a : ℕ) → Result (Option Block) Refusal → Type 0
+Freeable m s a (Ok (Some b)) =
+    (Lies (areas m) a (Heap b.base) × (b.length ≡ block_length m s a))
+    × ((m.segment ≤ b.base.0) × (b.base.0 % m.segment ≡ 0) × (b.base.0 + b.length ≤ length s.0))
+    × ((1 ≤ b.length) × (length s.0 % m.segment ≡ 0) × (length s.0 ≤ 131072))
+Freeable m s a (Ok None) = a ≡ 0
+Freeable m s a (Err r) = code_of r ≢ 0
 
-abbrev pub Removable : FormMap → Shadows → (a : ℕ) → Ending → Type 0
-Removable m s a (Block p l) =
-    (Lies (areas m) a (Stack p) × (l ≡ block_length m s a))
-    × ((p.0 + l ≤ length s.1.0) × (length s.1.0 ≡ length s.1.1) × (length s.1.0 ≤ 65536))
-Removable m s a (Settled k) = k ≢ 0
+abbrev pub Removable : FormMap → Shadows → (a : ℕ) → Result Block Refusal → Type 0
+Removable m s a (Ok b) =
+    (Lies (areas m) a (Stack b.base) × (b.length ≡ block_length m s a))
+    × ((b.base.0 + b.length ≤ length s.1.0) × (length s.1.0 ≡ length s.1.1) × (length s.1.0 ≤ 65536))
+Removable m s a (Err r) = code_of r ≢ 0
 
 -- ---- a mark of written bytes
 

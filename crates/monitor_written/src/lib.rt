@@ -8,7 +8,7 @@ ghost use Rattle.monitor_base.specs.Calls.{call};
 ghost use Rattle.plain.specs.Call as plain;
 
 use map::{Address, Form, Map};
-use monitor_base::{Answer, Checked, guard};
+use monitor_base::{Answer, guard};
 use monitor_mark::mark;
 use monitor_written_check::check;
 
@@ -25,7 +25,11 @@ pub fn written(
     ensures { outcome result heap.new primary.new secondary.new
         ≡ call (under form map) (plain.written a.0 n) (heap.old, (primary.old, secondary.old)) }
 {
-    let Checked { number, place } = check(form, map, heap, primary, secondary, a, n);
-    mark(form, heap, primary, place, n);
-    guard::refusal(number)
+    match check(form, map, heap, primary, secondary, a, n) {
+        Ok(place) => {
+            mark(form, heap, primary, place, n);
+            guard::accepted()
+        }
+        Err(refused) => guard::refusal(refused),
+    }
 }

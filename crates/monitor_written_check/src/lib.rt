@@ -1,49 +1,39 @@
 // The check of a mark of written bytes: it only reads.
 #![tactic(auto)]
 
-ghost use Rattle.std.specs.Prelude.{◌≡◌};
+ghost use Rattle.std.specs.Prelude.{◌≡◌, ◌≢◌, MatchResult};
 ghost use Rattle.map.specs.FormMap.{segment_size, under};
+ghost use Rattle.map.specs.Locating.{Lies};
 ghost use Rattle.plain.specs.Answers.{reading_of};
 ghost use Rattle.plain.specs.Call as plain;
-ghost use Rattle.map.specs.Locating.{Lies};
+ghost use Rattle.monitor_base.specs.Refusals.{Decides, code_of};
 ghost use Rattle.monitor_write_laws.specs.AreaCalls.{written_refusal};
-ghost use Rattle.monitor_write_laws.specs.Checks.{number_of, Idle, Markable};
+ghost use Rattle.monitor_write_laws.specs.Checks.{number_of, Markable};
 
 use map::{Address, Form, Located, Map};
-use monitor_base::{Checked, guard};
+use monitor_base::{Refusal, guard};
 use plain::Reading;
 
-// The number that a reading of the first of n bytes gives, in an area with literals or in one without: 0 where they lie in one block, which is
-// no literal. The sum is taken in 64 bits, where it cannot wrap.
-fn refused(r: Reading, n: u32, literals: bool) -> u32
-    ensures { result ≡ written_refusal literals n (reading_of r) }
+// What a reading of the first of n bytes decides, in an area with literals or in one without: accepted where they lie in one block, which is no
+// literal. The sum is taken in 64 bits, where it cannot wrap.
+fn refused(r: Reading, n: u32, literals: bool) -> Result<(), Refusal>
+    ensures { Decides (written_refusal literals n (reading_of r)) result }
 {
-    if let Reading::Block(_, len, offset, bits) = r {
-        if (len as u64) < offset as u64 + n as u64 {
-            return 7;
+    match r {
+        Reading::Block(_, len, offset, bits) => {
+            if (len as u64) < offset as u64 + n as u64 {
+                return Err(Refusal::NoBlock);
+            }
+            if literals & (bits & 2 != 0) {
+                return Err(Refusal::Literal);
+            }
+            Ok(())
         }
-        if literals & (bits & 2 != 0) {
-            return 13;
-        }
-        return 0;
+        Reading::Nothing | Reading::Damaged => Err(monitor_reading::missing(r)),
     }
-    monitor_reading::missing(r)
 }
 
-// What is found in an area, by the number that the reading there gives.
-fn in_area(number: u32, place: Located) -> Checked
-    ensures { (result.number ≡ number) × (number ≡ 0 → result.place ≡ place) × Idle number result.place }
-{
-    if number != 0 {
-        return Checked {
-            number,
-            place: Located::Outside,
-        };
-    }
-    Checked { number, place }
-}
-
-// The number; where it is 0, the place of the first of the n bytes, else one in neither area: there is nothing to mark.
+// The place of the first of the n bytes.
 pub fn check(
     form: Form,
     map: Map,
@@ -52,46 +42,30 @@ pub fn check(
     secondary: &[u8],
     a: Address,
     n: u32,
-) -> Checked
-    ensures { (result.number ≡ number_of (under form map) (plain.written a.0 n) (heap.now, (primary.now, secondary.now)))
-        × (result.number ≡ 0 → Lies map a.0 result.place)
-        × Idle result.number result.place
-        × Markable (segment_size form) result.place n heap.now primary.now }
+) -> Result<Located, Refusal>
+    ensures { MatchResult result
+        (λ place. (number_of (under form map) (plain.written a.0 n) (heap.now, (primary.now, secondary.now)) ≡ 0)
+        × Lies map a.0 place
+        × Markable (segment_size form) place n heap.now primary.now)
+        (λ e. (code_of e ≡ number_of (under form map) (plain.written a.0 n) (heap.now, (primary.now, secondary.now))) × (code_of e ≢ 0)) }
 {
-    let k = guard::checked(form, map, heap.len(), primary.len(), secondary.len());
-    if k != 0 {
-        return Checked {
-            number: k,
-            place: Located::Outside,
-        };
-    }
+    guard::checked(form, map, heap.len(), primary.len(), secondary.len())?;
     if n == 0 {
-        return Checked {
-            number: 3,
-            place: Located::Outside,
-        };
+        return Err(Refusal::Empty);
     }
     match map.locate(a) {
-        Located::Heap(p) => in_area(
-            refused(heap_forms::read(form, heap, p), n, false),
-            Located::Heap(p),
-        ),
+        Located::Heap(p) => {
+            refused(heap_read::read(form, heap, p), n, false)?;
+            Ok(Located::Heap(p))
+        }
         Located::Stack(p) => {
             // A whole block of four or eight bytes needs no reading.
             if stack_whole::writable(primary, p, n) {
-                return Checked {
-                    number: 0,
-                    place: Located::Stack(p),
-                };
+                return Ok(Located::Stack(p));
             }
-            in_area(
-                refused(stack_read::read(primary, secondary, p), n, true),
-                Located::Stack(p),
-            )
+            refused(stack_read::read(primary, secondary, p), n, true)?;
+            Ok(Located::Stack(p))
         }
-        Located::Outside => Checked {
-            number: 4,
-            place: Located::Outside,
-        },
+        Located::Outside => Err(Refusal::Outside),
     }
 }

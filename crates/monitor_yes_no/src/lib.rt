@@ -8,23 +8,18 @@ ghost use Rattle.monitor_base.specs.Answers.{answer_of};
 ghost use Rattle.monitor_read_laws.specs.Asked.{valid_answer, apart_answer};
 ghost use Rattle.plain.specs.Call as plain;
 
-use monitor_base::{Answer, guard};
+use monitor_base::{Answer, Refusal, guard};
 use plain::Reading;
 
 // Whether two readings in one area give the same block.
 fn same_block(r: Reading, q: Reading) -> bool
     ensures { result ≡ same_block (reading_of r) (reading_of q) }
 {
-    match r {
-        Reading::Damaged => false,
-        Reading::Nothing => false,
-        Reading::Block(base, length, _, _) => {
-            match q {
-                Reading::Damaged => false,
-                Reading::Nothing => false,
-                Reading::Block(other, len, _, _) => (base.0 == other.0) & (length == len),
-            }
+    match (r, q) {
+        (Reading::Block(base, length, _, _), Reading::Block(other, len, _, _)) => {
+            (base == other) & (length == len)
         }
+        _ => false,
     }
 }
 
@@ -33,8 +28,7 @@ fn literal(r: Reading) -> bool
     ensures { result ≡ is_literal (reading_of r) }
 {
     match r {
-        Reading::Damaged => false,
-        Reading::Nothing => false,
+        Reading::Damaged | Reading::Nothing => false,
         Reading::Block(_, _, _, bits) => bits & 2 != 0,
     }
 }
@@ -45,7 +39,7 @@ pub fn yes_no(t: bool) -> Answer
 {
     Answer {
         number: 0,
-        first: if t { 1 } else { 0 },
+        first: u32::from(t),
         second: 0,
         third: 0,
         fourth: 0,
@@ -57,7 +51,7 @@ pub fn apart(first: Reading, other: Reading) -> Answer
     ensures { answer_of result ≡ apart_answer (reading_of first) (reading_of other) }
 {
     if monitor_reading::damaged(first) | monitor_reading::damaged(other) {
-        return guard::refusal(8);
+        return guard::refusal(Refusal::Damaged);
     }
     yes_no(false)
 }

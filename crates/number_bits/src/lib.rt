@@ -27,7 +27,7 @@ pub fn set_bits(byte: &mut u8, j: u32, n: u32)
     requires { j + n ≤ 8 }
     ensures { byte.new ≡ with_bits byte.old j n }
 {
-    *byte = *byte | ((low_bits(n) << j) as u8);
+    *byte |= (low_bits(n) << j) as u8;
 }
 
 // Whether the n bits from bit j on are set.
@@ -36,14 +36,14 @@ pub fn bits_set(byte: u8, j: u32, n: u32) -> bool
     ensures { result ≡ bits_set byte j n }
 {
     let low = low_bits(n);
-    (number_words::wide(byte) >> j) & low == low
+    (u32::from(byte) >> j) & low == low
 }
 
 // The ones of a byte.
 pub fn ones(byte: u8) -> u32
     ensures { (result ≡ ones_of 8 byte) × (result ≤ 8) }
 {
-    u8::count_ones(byte)
+    byte.count_ones()
 }
 
 // The n low bytes of a number.
@@ -51,7 +51,7 @@ pub fn low(x: u64, n: u32) -> u64
     requires { (1 ≤ n) × (n ≤ 8) }
     ensures { result ≡ word (byte_of x) 0 n }
 {
-    x & (0xFFFFFFFFFFFFFFFF >> (64 - 8 * n))
+    x & (u64::MAX >> (64 - 8 * n))
 }
 
 // How many of the n low bytes of a number are odd. Modulo 255 a number is the sum of its bytes.
@@ -66,5 +66,5 @@ pub fn odds(x: u64, n: u32) -> u32
 pub fn zero_bytes(x: u64) -> u32
     ensures { (result ≡ run_of (λ j. eqb (byte_of x j) 0) 0 8) × (result ≤ 8) }
 {
-    u64::trailing_zeros(x) / 8
+    x.trailing_zeros() / 8
 }

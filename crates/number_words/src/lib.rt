@@ -1,23 +1,16 @@
 // Little-endian numbers in a slice, read and written.
 #![tactic(auto)]
 
-ghost use Rattle.std.specs.Prelude.{◌≡◌, ◌+◌, ◌-◌, ◌≤◌, ◌<◌, length};
+ghost use Rattle.std.specs.Prelude.{◌≡◌, ◌+◌, ◌-◌, ◌≤◌, length};
 ghost use Rattle.number.specs.Little.{le, bytes_of, byte_of, word};
 ghost use Rattle.number.specs.Parts.{at, over};
-
-// A byte as a wider number.
-pub fn wide(x: u8) -> u32
-    ensures { (result ≡ x) × (result < 256) }
-{
-    x as u32
-}
 
 // The number that four bytes hold.
 pub fn number(bytes: &[u8]) -> u32
     requires { length bytes.now ≡ 4 }
     ensures { result ≡ le bytes.now }
 {
-    wide(bytes[0]) + 256 * (wide(bytes[1]) + 256 * (wide(bytes[2]) + 256 * wide(bytes[3])))
+    u32::from_le_bytes([bytes[0], bytes[1], bytes[2], bytes[3]])
 }
 
 // The number at a place of a slice.
@@ -28,26 +21,14 @@ pub fn number_at(s: &[u8], p: usize) -> u32
     number(&s[p..p + 4])
 }
 
-// A byte as a number of 64 bits.
-fn long(x: u8) -> u64
-    ensures { (result ≡ x) × (result < 256) }
-{
-    x as u64
-}
-
-// The number that eight bytes hold, as one sum, which compiles to one load.
+// The number that eight bytes hold.
 fn eight(bytes: &[u8]) -> u64
     requires { length bytes.now ≡ 8 }
     ensures { result ≡ le bytes.now }
 {
-    long(bytes[0])
-        + 0x100 * long(bytes[1])
-        + 0x10000 * long(bytes[2])
-        + 0x1000000 * long(bytes[3])
-        + 0x100000000 * long(bytes[4])
-        + 0x10000000000 * long(bytes[5])
-        + 0x1000000000000 * long(bytes[6])
-        + 0x100000000000000 * long(bytes[7])
+    u64::from_le_bytes([
+        bytes[0], bytes[1], bytes[2], bytes[3], bytes[4], bytes[5], bytes[6], bytes[7],
+    ])
 }
 
 // The number in the eight bytes at a place of a slice.
@@ -63,10 +44,7 @@ pub fn put_number(bytes: &mut [u8], v: u32)
     requires { length bytes.old ≡ 4 }
     ensures { bytes.new ≡ bytes_of 4 v }
 {
-    bytes[0] = (v % 256) as u8;
-    bytes[1] = (v / 256 % 256) as u8;
-    bytes[2] = (v / 256 / 256 % 256) as u8;
-    bytes[3] = (v / 256 / 256 / 256 % 256) as u8;
+    bytes.copy_from_slice(&u32::to_le_bytes(v));
 }
 
 // Writes a number at a place of a slice; every other byte stays.
@@ -77,13 +55,12 @@ pub fn put_at(s: &mut [u8], p: usize, v: u32)
     put_number(&mut s[p..p + 4], v);
 }
 
-// Writes a number into eight bytes, in two halves that compile to one store.
+// Writes a number into eight bytes.
 fn put_eight(bytes: &mut [u8], v: u64)
     requires { length bytes.old ≡ 8 }
     ensures { bytes.new ≡ bytes_of 8 v }
 {
-    put_at(bytes, 0, (v % 0x100000000) as u32);
-    put_at(bytes, 4, (v / 0x100000000) as u32);
+    bytes.copy_from_slice(&u64::to_le_bytes(v));
 }
 
 // Writes a number into the eight bytes at a place of a slice; every other byte stays.

@@ -2,9 +2,10 @@
 ghost use Rattle.std.specs.Prelude.{◌≡◌, cond, ◌&&◌, ◌*◌, eqb};
 ghost use Rattle.map.specs.FormMap.{player};
 ghost use Rattle.map.specs.Map.{good_map};
+ghost use Rattle.monitor_base.specs.Refusals.{Decides, code_of};
 
 use map::{Form, Map};
-use monitor_base::guard;
+use monitor_base::{Refusal, guard};
 
 // Whether the cells are twice as long as their areas.
 pub fn cells_fit(map: Map, heap_cells: usize, stack_cells: usize) -> bool
@@ -13,14 +14,18 @@ pub fn cells_fit(map: Map, heap_cells: usize, stack_cells: usize) -> bool
     (heap_cells == 2 * (map.heap_size as usize)) & (stack_cells == 2 * (map.stack_size as usize))
 }
 
-// The number of a call whose cells do not fit: a map that breaks a rule comes first.
-pub fn unfit(map: Map) -> u32
-    ensures { result ≡ cond (good_map (player map)) 2 1 }
+// Why a call is refused whose cells do not fit: a map that breaks a rule comes first.
+pub fn unfit(map: Map) -> Refusal
+    ensures { code_of result ≡ cond (good_map (player map)) 2 1 }
 {
-    if map.good(Form::Player) { 2 } else { 1 }
+    if map.good(Form::Player) {
+        Refusal::BadLength
+    } else {
+        Refusal::BadMap
+    }
 }
 
-// 1 where the map breaks a rule, 2 where a length differs from what its area asks, else 0.
+// Whether the map keeps its rules, and shadows and cells have the lengths that it asks for.
 pub fn checked(
     map: Map,
     heap: usize,
@@ -28,17 +33,15 @@ pub fn checked(
     secondary: usize,
     heap_cells: usize,
     stack_cells: usize,
-) -> u32
-    ensures { result ≡ cond (good_map (player map))
+) -> Result<(), Refusal>
+    ensures { Decides (cond (good_map (player map))
         (cond (eqb heap map.heap_size && eqb primary map.stack_size && eqb secondary map.stack_size)
-        (cond (eqb heap_cells (2 * map.heap_size) && eqb stack_cells (2 * map.stack_size)) 0 2) 2) 1 }
+        (cond (eqb heap_cells (2 * map.heap_size) && eqb stack_cells (2 * map.stack_size)) 0 2) 2) 1) result }
 {
-    let k = guard::checked(Form::Player, map, heap, primary, secondary);
-    if k != 0 {
-        return k;
-    }
+    guard::checked(Form::Player, map, heap, primary, secondary)?;
     if cells_fit(map, heap_cells, stack_cells) {
-        return 0;
+        Ok(())
+    } else {
+        Err(Refusal::BadLength)
     }
-    2
 }

@@ -29,6 +29,7 @@ pub fn clear(
         return refusal(unfit(map));
     }
     let answer = monitor_clear::clear(Form::Player, map, heap, primary, secondary);
+    // The number stands in the answer that the plain form's call promises: 0 for accepted.
     if answer.number != 0 {
         return answer;
     }

@@ -8,8 +8,8 @@ ghost use Rattle.origins_base.specs.Answers.{lent, outcome_at};
 ghost use Rattle.origins_base.specs.Calls.{call};
 
 use map::{Address, Form, Map};
-use monitor_base::guard::refusal;
-use monitor_base::{Answer, Ending};
+use monitor_base::Answer;
+use monitor_base::guard::{accepted, refusal};
 use monitor_free_check::check;
 use origins_base::guard::checked;
 
@@ -28,23 +28,23 @@ pub fn free(
         ≡ call map (plain (calls.free base.0))
         (lent heap.old primary.now secondary.now heap_cells.old stack_cells.now k) }
 {
-    let k = checked(
+    if let Err(refused) = checked(
         map,
         heap.len(),
         primary.len(),
         secondary.len(),
         heap_cells.len(),
         stack_cells.len(),
-    );
-    if k != 0 {
-        return refusal(k);
+    ) {
+        return refusal(refused);
     }
     match check(Form::Player, map, heap, primary, secondary, base) {
-        Ending::Block(p, length) => {
-            heap_place::erase(Form::Player, heap, p, length);
-            cells_zero::zero(heap_cells, p, length);
-            refusal(0)
+        Ok(Some(block)) => {
+            heap_place::erase(Form::Player, heap, block.base, block.length);
+            cells_zero::zero(heap_cells, block.base, block.length);
+            accepted()
         }
-        Ending::Settled(number) => refusal(number),
+        Ok(None) => accepted(),
+        Err(refused) => refusal(refused),
     }
 }

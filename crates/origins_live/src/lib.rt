@@ -7,8 +7,8 @@ ghost use Rattle.origins_list.specs.Call as form;
 ghost use Rattle.origins_base.specs.Answers.{lent, outcome_at};
 ghost use Rattle.origins_base.specs.Calls.{call};
 
-use map::{Address, Located, Map};
-use monitor_base::{Answer, guard};
+use map::{Address, Form, Located, Map};
+use monitor_base::{Answer, Refusal, guard};
 use monitor_yes_no::yes_no;
 use origins_base::guard::checked;
 use origins_cells_read::{origin_of, referent};
@@ -30,32 +30,30 @@ pub fn live(
     ensures { (k : ℕ) → outcome_at k result heap.now primary.now secondary.now heap_cells.now stack_cells.now
         ≡ call map (form.live cell.0 a.0) (lent heap.now primary.now secondary.now heap_cells.now stack_cells.now k) }
 {
-    let k = checked(
+    if let Err(refused) = checked(
         map,
         heap.len(),
         primary.len(),
         secondary.len(),
         heap_cells.len(),
         stack_cells.len(),
-    );
-    if k != 0 {
-        return guard::refusal(k);
+    ) {
+        return guard::refusal(refused);
     }
     let place = map.locate(cell);
     let held = match place {
-        Located::Heap(p) => heap_read::read(heap, p),
+        Located::Heap(p) => heap_read::read(Form::Player, heap, p),
         Located::Stack(p) => stack_read::read(primary, secondary, p),
-        Located::Outside => return guard::refusal(4),
+        Located::Outside => return guard::refusal(Refusal::Outside),
     };
     let target = map.locate(a);
     let told = match target {
-        Located::Heap(p) => heap_read::read(heap, p),
+        Located::Heap(p) => heap_read::read(Form::Player, heap, p),
         Located::Stack(p) => stack_read::read(primary, secondary, p),
         Located::Outside => Reading::Nothing,
     };
-    let number = point_refusal(cell, held, told);
-    if number != 0 {
-        return guard::refusal(number);
+    if let Err(refused) = point_refusal(cell, held, told) {
+        return guard::refusal(refused);
     }
     let set = referent(heap_cells, stack_cells, place);
     let origin = origin_of(heap_cells, stack_cells, target, told);

@@ -10,7 +10,6 @@ use map::{Address, Map};
 use monitor_base::{Answer, guard};
 use origins_cells::set_referent;
 use origins_point_check::check;
-use origins_pointer::Aim;
 
 // The referent becomes the origin of that block, or 0, for no block.
 pub fn point(
@@ -26,11 +25,7 @@ pub fn point(
     ensures { (k : ℕ) → outcome_at k result heap.now primary.now secondary.now heap_cells.new stack_cells.new
         ≡ call map (form.point cell.0 a.0) (lent heap.now primary.now secondary.now heap_cells.old stack_cells.old k) }
 {
-    let Aim {
-        number,
-        place,
-        origin,
-    } = check(
+    match check(
         map,
         heap,
         primary,
@@ -39,10 +34,11 @@ pub fn point(
         stack_cells,
         cell,
         a,
-    );
-    if number != 0 {
-        return guard::refusal(number);
+    ) {
+        Ok(aim) => {
+            set_referent(heap_cells, stack_cells, aim.place, aim.origin);
+            guard::accepted()
+        }
+        Err(refused) => guard::refusal(refused),
     }
-    set_referent(heap_cells, stack_cells, place, origin);
-    guard::refusal(0)
 }

@@ -1,13 +1,14 @@
 // The check of a point: it only reads.
 #![tactic(auto)]
 
-ghost use Rattle.std.specs.Prelude.{◌≡◌};
-ghost use Rattle.origins_laws.specs.Pointers.{point_number, origin_held, CellLies};
+ghost use Rattle.origins_laws.specs.Pointers.{point_number, origin_held};
+ghost use Rattle.origins_pointer.specs.Aims.{AimsAt};
 
-use map::{Address, Located, Map};
+use map::{Address, Form, Located, Map};
+use monitor_base::Refusal;
 use origins_base::guard;
 use origins_cells_read::origin_of;
-use origins_pointer::{Aim, point_refusal, refused};
+use origins_pointer::{Aim, point_refusal};
 use plain::Reading;
 
 // The origin is that of the block that holds the address, 0 where there is none: an address in neither area is in no block.
@@ -20,40 +21,34 @@ pub fn check(
     stack_cells: &[u8],
     cell: Address,
     a: Address,
-) -> Aim
-    ensures { (result.number ≡ point_number map (heap.now, (primary.now, secondary.now))
-        (heap_cells.now, stack_cells.now) cell.0 a.0)
-        × (result.number ≡ 0 → CellLies map (heap.now, (primary.now, secondary.now))
-        (heap_cells.now, stack_cells.now) cell.0 result.place
-        × (result.origin ≡ origin_held map (heap.now, (primary.now, secondary.now))
-        (heap_cells.now, stack_cells.now) a.0)) }
+) -> Result<Aim, Refusal>
+    ensures { AimsAt map (heap.now, (primary.now, secondary.now)) (heap_cells.now, stack_cells.now) cell.0
+        (point_number map (heap.now, (primary.now, secondary.now)) (heap_cells.now, stack_cells.now) cell.0 a.0)
+        (origin_held map (heap.now, (primary.now, secondary.now)) (heap_cells.now, stack_cells.now) a.0) result }
 {
-    let k = guard::checked(
+    guard::checked(
         map,
         heap.len(),
         primary.len(),
         secondary.len(),
         heap_cells.len(),
         stack_cells.len(),
-    );
-    if k != 0 {
-        return refused(k);
-    }
+    )?;
     let place = map.locate(cell);
     let held = match place {
-        Located::Heap(p) => heap_read::read(heap, p),
+        Located::Heap(p) => heap_read::read(Form::Player, heap, p),
         Located::Stack(p) => stack_read::read(primary, secondary, p),
-        Located::Outside => return refused(4),
+        Located::Outside => return Err(Refusal::Outside),
     };
     let target = map.locate(a);
     let told = match target {
-        Located::Heap(p) => heap_read::read(heap, p),
+        Located::Heap(p) => heap_read::read(Form::Player, heap, p),
         Located::Stack(p) => stack_read::read(primary, secondary, p),
         Located::Outside => Reading::Nothing,
     };
-    Aim {
-        number: point_refusal(cell, held, told),
+    point_refusal(cell, held, told)?;
+    Ok(Aim {
         place,
         origin: origin_of(heap_cells, stack_cells, target, told),
-    }
+    })
 }

@@ -1,32 +1,35 @@
 // Records a block in the form with origins: with no byte written, with every byte, or as a literal.
 #![tactic(auto)]
 
-ghost use Rattle.std.specs.Prelude.{◌≡◌, ◌≤◌};
+ghost use Rattle.std.specs.Prelude.{◌≡◌, ◌≢◌, ◌≤◌, MatchResult};
 ghost use Rattle.plain.specs.Call as calls;
 ghost use Rattle.origins_list.specs.Call.{plain};
 ghost use Rattle.origins_base.specs.Answers.{lent, outcome};
 ghost use Rattle.origins_base.specs.Calls.{call};
 ghost use Rattle.monitor_base.specs.Answers.{answer_of};
+ghost use Rattle.monitor_base.specs.Refusals.{code_of, told_of};
 ghost use Rattle.origins_write_laws.specs.Checks as checks;
 
 use map::{Address, Map};
-use monitor_base::guard::refusal;
+use monitor_base::Refusal;
+use monitor_base::guard::{accepted, refusal};
 use origins_base::Counted;
 use plain::Beginning;
 
-// The answer of a number, and the counter, which counts where nothing is refused.
-fn counted(number: u32, counter: u64) -> Counted
-    requires { number ≡ 0 → counter ≤ 4294967295 }
-    ensures { (result.counter ≡ checks.counted number counter) × (answer_of result.answer ≡ calls.refusal number) }
+// The answer, and the counter, which counts where nothing is refused.
+fn counted(begun: Result<(), Refusal>, counter: u64) -> Counted
+    requires { MatchResult begun (λ _. counter ≤ 4294967295) (λ refused. code_of refused ≢ 0) }
+    ensures { (result.counter ≡ checks.counted (told_of begun) counter) × (answer_of result.answer ≡ calls.refusal (told_of begun)) }
 {
-    let answer = refusal(number);
-    if number != 0 {
-        return Counted { answer, counter };
-    }
-    let next = counter + 1;
-    Counted {
-        answer,
-        counter: next,
+    match begun {
+        Ok(()) => Counted {
+            answer: accepted(),
+            counter: counter + 1,
+        },
+        Err(refused) => Counted {
+            answer: refusal(refused),
+            counter,
+        },
     }
 }
 
@@ -47,7 +50,7 @@ pub fn begin(
         ≡ call map (plain (calls.begin how base.0 len))
         (lent heap.old primary.old secondary.old heap_cells.old stack_cells.old counter) }
 {
-    let number = origins_begin::begin(
+    let begun = origins_begin::begin(
         map,
         heap,
         primary,
@@ -59,5 +62,5 @@ pub fn begin(
         len,
         how,
     );
-    counted(number, counter)
+    counted(begun, counter)
 }

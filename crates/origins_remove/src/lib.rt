@@ -8,8 +8,8 @@ ghost use Rattle.origins_base.specs.Answers.{lent, outcome_at};
 ghost use Rattle.origins_base.specs.Calls.{call};
 
 use map::{Address, Form, Map};
-use monitor_base::guard::refusal;
-use monitor_base::{Answer, Ending};
+use monitor_base::Answer;
+use monitor_base::guard::{accepted, refusal};
 use monitor_remove_check::check;
 use origins_base::guard::checked;
 
@@ -27,23 +27,22 @@ pub fn remove(
         ≡ call map (plain (calls.remove base.0))
         (lent heap.now primary.old secondary.old heap_cells.now stack_cells.old k) }
 {
-    let k = checked(
+    if let Err(refused) = checked(
         map,
         heap.len(),
         primary.len(),
         secondary.len(),
         heap_cells.len(),
         stack_cells.len(),
-    );
-    if k != 0 {
-        return refusal(k);
+    ) {
+        return refusal(refused);
     }
     match check(Form::Player, map, heap, primary, secondary, base) {
-        Ending::Block(p, length) => {
-            stack_place::erase(primary, secondary, p, length);
-            cells_zero::zero(stack_cells, p, length);
-            refusal(0)
+        Ok(block) => {
+            stack_place::erase(primary, secondary, block.base, block.length);
+            cells_zero::zero(stack_cells, block.base, block.length);
+            accepted()
         }
-        Ending::Settled(number) => refusal(number),
+        Err(refused) => refusal(refused),
     }
 }

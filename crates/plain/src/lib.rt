@@ -12,9 +12,10 @@ pub enum Reading {
     Damaged,
 }
 
-// An audit of one area: blocks, live bytes, written bytes.
+// The totals of the blocks of one area, where its shadow is the image of a list.
 #[derive(Clone, Copy)]
-pub enum Audit {
-    Totals(u32, u32, u32),
-    NoImage,
+pub struct Totals {
+    pub blocks: u32,
+    pub live: u32,
+    pub written: u32,
 }

@@ -8,8 +8,7 @@ use std::io::Stdout;
 
 // A sample of the desk, or a line that is no sample: the desk has no calls program.
 fn answer_desk(output: Stdout, line: &[u8]) {
-    let call = samples_text::after_word(line, 0, b"on desk:");
-    if 0 < call {
+    if let Some(call) = samples_text::after_word(line, 0, b"on desk:") {
         if !samples_plain::calls::answer(output, Form::Desk, line, call) {
             malformed(output);
         }
@@ -20,15 +19,13 @@ fn answer_desk(output: Stdout, line: &[u8]) {
 
 // A sample of the form with origins, or of the desk.
 fn answer_origins(output: Stdout, line: &[u8]) {
-    let call = samples_text::after_word(line, 0, b"on origins:");
-    if 0 < call {
+    if let Some(call) = samples_text::after_word(line, 0, b"on origins:") {
         if !samples_origins::calls::answer(output, line, call) {
             malformed(output);
         }
         return;
     }
-    let records = samples_text::after_word(line, 0, b"run origins:");
-    if 0 < records {
+    if let Some(records) = samples_text::after_word(line, 0, b"run origins:") {
         samples_origins::runs::answer(output, line, records);
         return;
     }
@@ -41,35 +38,30 @@ fn answer(output: Stdout, line: &[u8]) {
     if samples_text::remark(line) {
         return;
     }
-    let call = samples_text::after_word(line, 0, b"on:");
-    if 0 < call {
+    if let Some(call) = samples_text::after_word(line, 0, b"on:") {
         if !samples_plain::calls::answer(output, Form::Player, line, call) {
             malformed(output);
         }
         return;
     }
-    let records = samples_text::after_word(line, 0, b"run:");
-    if 0 < records {
+    if let Some(records) = samples_text::after_word(line, 0, b"run:") {
         samples_plain::runs::answer(output, line, records);
         return;
     }
     answer_origins(output, line);
 }
 
-fn answer_first(output: Stdout, buffer: &[u8], n: usize) {
-    if n <= buffer.len() {
-        answer(output, &buffer[0..n]);
-    }
-}
-
 fn answer_line(output: Stdout, buffer: &[u8; 4096], line: Line) {
     match line {
-        Line::Whole(n) => answer_first(output, buffer, n),
+        Line::Whole(n) => {
+            if let Some(text) = buffer.get(..n) {
+                answer(output, text);
+            }
+        }
         Line::Long => {
             write(output, buffer);
             malformed(output);
         }
-        Line::End => {}
     }
     write(output, b"\n");
 }
@@ -79,10 +71,9 @@ fn main(rt: HostRuntime) {
     let output = rt.stdout();
     let mut buffer = [0u8; 4096];
     for _ in 0..1000000000u32 {
-        let line = samples_input::read(input, &mut buffer);
-        if let Line::End = line {
+        let Some(line) = samples_input::read(input, &mut buffer) else {
             return;
-        }
+        };
         answer_line(output, &buffer, line);
     }
 }

@@ -1,5 +1,5 @@
 -- Bytes compared one after another. Assumes nothing.
-use mathlib.Core.Path.{◌≡◌, refl, ◌∙◌}
+use mathlib.Core.Path.{◌≡◌, refl, sym, ◌∙◌}
 use mathlib.Core.Bool.{Bool, true, false, cond, not, ◌||◌}
 use mathlib.Core.List.{List, [], ◌∷◌}
 use mathlib.Core.Logic.{◌≢◌, ◌⊎◌, inl, inr}
@@ -9,68 +9,69 @@ use native.Mathlib.Nat.{add-zero}
 use native.Mathlib.Numerals.{add-one}
 use lib.ListN.{length, drop}
 use lib.Seq.{drop-cons}
-use lib.Dec.{eqb}
+use lib.Dec.{eqb, ltb}
 use borrow.Author.Tests.{eq-eqb, ne_eqb}
+use Rattle.std.specs.Prelude.{Option, Some, None}
+use Rattle.std.specs.Option.{is_some}
+use Rattle.std.specs.List.{zip, position_or_len, position_from}
+use Rattle.std.proofs.lemmas.Iterator.Adapters.{position_from-zero}
+use Rattle.std.proofs.lemmas.Option.{same_Some, none-some}
 use Rattle.number.specs.Parts.{at}
-use Rattle.number.proofs.TestLaws.{Test, is_true, is_false, test}
+use Rattle.samples_text.specs.Text.{by_place}
 use Rattle.samples_text.proofs.TextLaws.{drop_past}
 use Rattle.samples_bytes.specs.Changes.{differ, change_end, change_start}
 
--- no end where nothing differs
-end_none : (xs ys : List ℕ) → differ xs ys ≡ false → change_end xs ys ≡ 0
+-- some byte differs exactly if a change ends, and if one starts
+pub differ-end : (xs ys : List ℕ) → differ xs ys ≡ is_some (change_end xs ys)
 unfolding differ change_end
-end_none [] ys e = refl
-end_none (x ∷ xs) [] e = refl
-end_none (x ∷ xs) (y ∷ ys) e = go (eqb x y) (differ xs ys) e
+differ-end [] ys = refl
+differ-end (x ∷ xs) [] = refl
+differ-end (x ∷ xs) (y ∷ ys) = rw (differ-end xs ys) (go (eqb x y) (change_end xs ys))
   where
-    go : (s t : Bool) → (not s || t) ≡ false → cond t (suc (change_end xs ys)) (cond s 0 1) ≡ 0
-    go true true f = let z : ◌≡◌ {A = ℕ} 0 1 = cc in absurd (omega arith)
-    go true false f = refl
-    go false t f = let z : ◌≡◌ {A = ℕ} 0 1 = cc in absurd (omega arith)
+    go : (s : Bool) (r : Option ℕ) → (not s || is_some r) ≡ is_some (by_place r (cond s None (Some 1)) (λ e. Some (suc e)))
+    go true None = refl
+    go true (Some e) = refl
+    go false None = refl
+    go false (Some e) = refl
 
-end-some : (xs ys : List ℕ) → differ xs ys ≡ true → 0 < change_end xs ys
-unfolding differ change_end
-end-some [] ys e = let z : ◌≡◌ {A = ℕ} 0 1 = cc in absurd (omega arith)
-end-some (x ∷ xs) [] e = let z : ◌≡◌ {A = ℕ} 0 1 = cc in absurd (omega arith)
-end-some (x ∷ xs) (y ∷ ys) e = go (eqb x y) (differ xs ys) e
+pub differ-start : (xs ys : List ℕ) → differ xs ys ≡ is_some (change_start xs ys)
+unfolding differ change_start
+differ-start [] ys = refl
+differ-start (x ∷ xs) [] = refl
+differ-start (x ∷ xs) (y ∷ ys) = rw (differ-start xs ys) (go (eqb x y) (change_start xs ys))
   where
-    go : (s t : Bool) → (not s || t) ≡ true → 0 < cond t (suc (change_end xs ys)) (cond s 0 1)
-    go true true f = omega arith
-    go true false f = let z : ◌≡◌ {A = ℕ} 0 1 = cc in absurd (omega arith)
-    go false true f = omega arith
-    go false false f = omega arith
+    go : (s : Bool) (r : Option ℕ) → (not s || is_some r) ≡ is_some (cond s (by_place r None (λ e. Some (suc e))) (Some 0))
+    go true None = refl
+    go true (Some e) = refl
+    go false None = refl
+    go false (Some e) = refl
 
--- some byte differs exactly if the change has an end e
-pub told_none : (xs ys : List ℕ) (e : ℕ) (t : Bool) → e ≡ change_end xs ys → e ≡ 0 → t ≡ (differ xs ys || t)
-told_none xs ys e t w z = go (test (differ xs ys))
-  where
-    go : Test (differ xs ys) → t ≡ (differ xs ys || t)
-    go (is_true d) = absurd (omega (arith, end-some xs ys d))
-    go (is_false d) = rw d
+module _ (xs ys : List ℕ) (r : Option ℕ) (t : Bool) where
+  pub told_none : r ≡ change_start xs ys → r ≡ None → t ≡ (differ xs ys || t)
+  told_none w e = rw (differ-start xs ys, ← w, e)
 
-pub told-some : (xs ys : List ℕ) (e : ℕ) (t : Bool) → e ≡ change_end xs ys → e ≢ 0 → true ≡ (differ xs ys || t)
-told-some xs ys e t w z = go (test (differ xs ys))
-  where
-    go : Test (differ xs ys) → true ≡ (differ xs ys || t)
-    go (is_true d) = rw d
-    go (is_false d) = absurd (z (w ∙ end_none xs ys d))
+  pub told_end : r ≡ change_end xs ys → r ≡ None → t ≡ (differ xs ys || t)
+  told_end w e = rw (differ-end xs ys, ← w, e)
 
--- ---- from place i on, where the last change before it ends at e
+  pub told-some : (e : ℕ) → r ≡ change_start xs ys → r ≡ Some e → true ≡ (differ xs ys || t)
+  told-some e w z = rw (differ-start xs ys, ← w, z)
 
-abbrev pub end_from : (xs ys : List ℕ) → (e i : ℕ) → ℕ
-end_from xs ys e i = cond (differ (drop i xs) (drop i ys)) (i + change_end (drop i xs) (drop i ys)) e
+-- ---- the last change that ends before place i ends at e
+
+abbrev pub end_from : (xs ys : List ℕ) → (e : Option ℕ) → (i : ℕ) → Option ℕ
+end_from xs ys e i = by_place (change_end (drop i xs) (drop i ys)) e (λ n. Some (i + n))
 
 module _ (xs ys : List ℕ) where
-  pub end-first : change_end xs ys ≡ end_from xs ys 0 0
-  end-first = go (test (differ xs ys))
+  pub end-first : change_end xs ys ≡ end_from xs ys None 0
+  end-first = go (change_end xs ys)
     where
-      go : Test (differ xs ys) → change_end xs ys ≡ cond (differ xs ys) (0 + change_end xs ys) 0
-      go (is_true t) = rw t (omega arith)
-      go (is_false t) = rw t (end_none xs ys t)
+      go : (r : Option ℕ) → r ≡ by_place r None (λ n. Some (0 + n))
+      go None = refl
+      go (Some n) = let z : n ≡ 0 + n = omega arith in rw (← z)
 
-  module _ (e i : ℕ) where
+  module _ (e : Option ℕ) (i : ℕ) where
     pub end-last : length xs ≤ i → end_from xs ys e i ≡ e
-    unfolding differ
+    unfolding change_end
     end-last h = rw (drop_past i xs h)
 
     module _ (h : i < length xs) (k : length xs ≡ length ys) where
@@ -78,51 +79,89 @@ module _ (xs ys : List ℕ) where
       both P p = rw (drop-cons xs i 0 h, drop-cons ys i 0 (omega arith), ← add-one i) p
 
       end_same : at xs i ≡ at ys i → end_from xs ys e i ≡ end_from xs ys e (i + 1)
-      unfolding differ change_end
+      unfolding change_end
       end_same q =
-          both (λ a b. cond (differ a b) (i + change_end a b) e ≡ end_from xs ys e (i + 1))
-          (rw (eq-eqb (at xs i) (at ys i) q) (go (differ (drop (i + 1) xs) (drop (i + 1) ys))))
+          both (λ a b. by_place (change_end a b) e (λ n. Some (i + n)) ≡ end_from xs ys e (i + 1))
+          (rw (eq-eqb (at xs i) (at ys i) q) (go (change_end (drop (i + 1) xs) (drop (i + 1) ys))))
         where
-          go : (t : Bool) → cond t (i + cond t (suc (change_end (drop (i + 1) xs) (drop (i + 1) ys))) 0) e
-              ≡ cond t (i + 1 + change_end (drop (i + 1) xs) (drop (i + 1) ys)) e
-          go true = omega arith
-          go false = refl
+          go : (r : Option ℕ) → by_place (by_place r None (λ n. Some (suc n))) e (λ n. Some (i + n)) ≡ by_place r e (λ n. Some (i + 1 + n))
+          go None = refl
+          go (Some n) = let z : i + suc n ≡ i + 1 + n = omega arith in rw z
 
-      end-here : at xs i ≢ at ys i → end_from xs ys e i ≡ end_from xs ys (i + 1) (i + 1)
-      unfolding differ change_end
+      end-here : at xs i ≢ at ys i → end_from xs ys e i ≡ end_from xs ys (Some (i + 1)) (i + 1)
+      unfolding change_end
       end-here d =
-          both (λ a b. cond (differ a b) (i + change_end a b) e ≡ end_from xs ys (i + 1) (i + 1))
-          (rw (ne_eqb (at xs i) (at ys i) d) (go (differ (drop (i + 1) xs) (drop (i + 1) ys))))
+          both (λ a b. by_place (change_end a b) e (λ n. Some (i + n)) ≡ end_from xs ys (Some (i + 1)) (i + 1))
+          (rw (ne_eqb (at xs i) (at ys i) d) (go (change_end (drop (i + 1) xs) (drop (i + 1) ys))))
         where
-          go : (t : Bool) → i + cond t (suc (change_end (drop (i + 1) xs) (drop (i + 1) ys))) 1
-              ≡ cond t (i + 1 + change_end (drop (i + 1) xs) (drop (i + 1) ys)) (i + 1)
-          go true = omega arith
-          go false = refl
+          go : (r : Option ℕ) → by_place (by_place r (Some 1) (λ n. Some (suc n))) e (λ n. Some (i + n)) ≡ by_place r (Some (i + 1)) (λ n. Some (i + 1 + n))
+          go None = refl
+          go (Some n) = let z : i + suc n ≡ i + 1 + n = omega arith in rw z
 
       -- e' is the end after place i
-      pub end-next : (e' : ℕ) → ((at xs i ≢ at ys i) × (e' ≡ i + 1)) ⊎ ((at xs i ≡ at ys i) × (e' ≡ e)) → end_from xs ys e i ≡ end_from xs ys e' (i + 1)
+      pub end-next : (e' : Option ℕ) → ((at xs i ≢ at ys i) × (e' ≡ Some (i + 1))) ⊎ ((at xs i ≡ at ys i) × (e' ≡ e))
+          → end_from xs ys e i ≡ end_from xs ys e' (i + 1)
       end-next e' (inl w) = rw w.1 (end-here w.0)
       end-next e' (inr w) = rw w.1 (end_same w.0)
 
--- ---- the first place that differs, from place i on
+-- ---- a change starts before it ends, and ends within the bytes
 
-abbrev pub start_from : (xs ys : List ℕ) → (i : ℕ) → ℕ
-start_from xs ys i = i + change_start (drop i xs) (drop i ys)
+pub end-within : (xs ys : List ℕ) (e : ℕ) → Some e ≡ change_end xs ys → (e ≤ length xs) × (e ≤ length ys)
+unfolding change_end
+end-within [] ys e w = absurd (none-some e (sym w))
+end-within (x ∷ xs) [] e w = absurd (none-some e (sym w))
+end-within (x ∷ xs) (y ∷ ys) e w = go (eqb x y) (change_end xs ys) (end-within xs ys) w
+  where
+    go : (s : Bool) (r : Option ℕ) → ((n : ℕ) → Some n ≡ r → (n ≤ length xs) × (n ≤ length ys))
+        → Some e ≡ by_place r (cond s None (Some 1)) (λ n. Some (suc n)) → (e ≤ length (x ∷ xs)) × (e ≤ length (y ∷ ys))
+    go true None f z = absurd (none-some e (sym z))
+    go false None f z = let q : e ≡ 1 = same_Some e 1 z in (omega arith, omega arith)
+    go s (Some n) f z = let q : e ≡ suc n = same_Some e (suc n) z in let g : (n ≤ length xs) × (n ≤ length ys) = f n refl in (omega arith, omega arith)
 
-module _ (xs ys : List ℕ) where
-  pub start_first : change_start xs ys ≡ start_from xs ys 0
-  start_first = omega arith
+pub starts-before : (xs ys : List ℕ) (i e : ℕ) → Some i ≡ change_start xs ys → Some e ≡ change_end xs ys → i < e
+unfolding change_start change_end
+starts-before [] ys i e v w = absurd (none-some e (sym w))
+starts-before (x ∷ xs) [] i e v w = absurd (none-some e (sym w))
+starts-before (x ∷ xs) (y ∷ ys) i e v w = go (eqb x y) (change_start xs ys) (change_end xs ys) (starts-before xs ys) v w
+  where
+    go : (s : Bool) (a r : Option ℕ) → ((j n : ℕ) → Some j ≡ a → Some n ≡ r → j < n)
+        → Some i ≡ cond s (by_place a None (λ j. Some (suc j))) (Some 0) → Some e ≡ by_place r (cond s None (Some 1)) (λ n. Some (suc n)) → i < e
+    go true None r f v w = absurd (none-some i (sym v))
+    go true (Some j) None f v w = absurd (none-some e (sym w))
+    go true (Some j) (Some n) f v w =
+        let a : i ≡ suc j = same_Some i (suc j) v in
+        let b : e ≡ suc n = same_Some e (suc n) w in
+        let g : j < n = f j n refl refl in omega arith
+    go false a None f v w =
+        let p : i ≡ 0 = same_Some i 0 v in
+        let q : e ≡ 1 = same_Some e 1 w in omega arith
+    go false a (Some n) f v w =
+        let p : i ≡ 0 = same_Some i 0 v in
+        let q : e ≡ suc n = same_Some e (suc n) w in omega arith
 
-  module _ (i : ℕ) where
-    pub start-last : length xs ≤ i → start_from xs ys i ≡ i
-    unfolding change_start
-    start-last h = rw (drop_past i xs h) (add-zero i)
+-- ---- the first place that differs, as the code finds it
 
-    module _ (h : i < length xs) (k : length xs ≡ length ys) where
-      pub start-same : at xs i ≡ at ys i → start_from xs ys i ≡ start_from xs ys (i + 1)
-      unfolding change_start
-      start-same q = rw (drop-cons xs i 0 h, drop-cons ys i 0 (omega arith), eq-eqb (at xs i) (at ys i) q, add-one i) (omega arith)
+abbrev pub differs : ℕ × ℕ → Bool
+differs p = not (eqb p.0 p.1)
 
-      pub start-here : at xs i ≢ at ys i → start_from xs ys i ≡ i
-      unfolding change_start
-      start-here d = rw (drop-cons xs i 0 h, drop-cons ys i 0 (omega arith), ne_eqb (at xs i) (at ys i) d) (add-zero i)
+pub positions : (i : ℕ) (xs ys : List ℕ) → position_from differs i (zip xs ys) ≡ by_place (change_start xs ys) None (λ j. Some (i + j))
+unfolding change_start
+positions i [] ys = refl
+positions i (x ∷ xs) [] = refl
+positions i (x ∷ xs) (y ∷ ys) = go (eqb x y) (change_start xs ys) (positions (i + 1) xs ys)
+  where
+    go : (s : Bool) (r : Option ℕ) → position_from differs (i + 1) (zip xs ys) ≡ by_place r None (λ j. Some (i + 1 + j))
+        → cond (not s) (Some i) (position_from differs (i + 1) (zip xs ys))
+        ≡ by_place (cond s (by_place r None (λ j. Some (suc j))) (Some 0)) None (λ j. Some (i + j))
+    go true None ih = ih
+    go true (Some j) ih = let z : i + 1 + j ≡ i + suc j = omega arith in rw (← z) ih
+    go false r ih = rw (add-zero i)
+
+pub starts : (xs ys : List ℕ) (r : Option ℕ)
+    → r ≡ cond (ltb (position_or_len differs (zip xs ys)) (length (zip xs ys))) (Some (position_or_len differs (zip xs ys))) None
+    → r ≡ change_start xs ys
+starts xs ys r e = e ∙ position_from-zero differs (zip xs ys) ∙ positions 0 xs ys ∙ go (change_start xs ys)
+  where
+    go : (r : Option ℕ) → by_place r None (λ j. Some (0 + j)) ≡ r
+    go None = refl
+    go (Some j) = let z : 0 + j ≡ j = omega arith in rw z

@@ -8,6 +8,7 @@ use lib.ListN.{length, take, set}
 use lib.Seq.{take_all, take-suc-set}
 use lib.Dec.{eqb}
 use borrow.Author.Tests.{ne_eqb}
+use Rattle.std.specs.Prelude.{Option, Some, None}
 use Rattle.number.proofs.TestLaws.{Test, is_true, is_false, test}
 use Rattle.samples_input.specs.declared.Line.{Line}
 use Rattle.samples_input.specs.declared.Line.TheVariants as line
@@ -25,13 +26,13 @@ one_more l n b k d h = rw (add-one n, take-suc-set l n b k) (also (take n l) b h
 pub all_read : (l : List ℕ) (n : ℕ) → length l ≤ n → NoEnd (take n l) → NoEnd l
 all_read l n k h = rw (take_all n l k) at h
 
-pub last_none : (n : ℕ) → n ≡ 0 → line.End ≡ last_line n
+pub last_none : (n : ℕ) → n ≡ 0 → None ≡ last_line n
 last_none n e = rw e
 
-pub last_some : (n : ℕ) → n ≢ 0 → line.Whole n ≡ last_line n
+pub last_some : (n : ℕ) → n ≢ 0 → Some (line.Whole n) ≡ last_line n
 last_some n d = rw (ne_eqb n 0 d)
 
-pub last-is : (l : List ℕ) (n size : ℕ) (r : Line) → r ≡ last_line n → n < size → NoEnd (take n l) → IsLine size l r
+pub last-is : (l : List ℕ) (n size : ℕ) (r : Option Line) → r ≡ last_line n → n < size → NoEnd (take n l) → IsLine size l r
 last-is l n size r e k h = rw e (go (test (eqb n 0)))
   where
     go : Test (eqb n 0) → IsLine size l (last_line n)

@@ -1,5 +1,5 @@
 -- What is read of standard input, whatever it has. Assumes nothing.
-use Rattle.std.specs.Prelude.{cond, List, ◌≢◌, ℕ, ◌<◌, take, eqb}
+use Rattle.std.specs.Prelude.{cond, List, Option, Some, None, ◌≢◌, ℕ, ◌<◌, take, eqb}
 use Rattle.number.specs.Parts.{Each}
 use Rattle.samples_input.specs.declared.Line.{Line}
 use Rattle.samples_input.specs.declared.Line.TheVariants as line
@@ -9,11 +9,11 @@ abbrev pub NoEnd : List ℕ → Type 0
 NoEnd bytes = Each (λ b. b ≢ 10) bytes
 
 -- a whole line is shorter than the buffer, and no byte of a line is a line end
-abbrev pub IsLine : (size : ℕ) → (buffer : List ℕ) → Line → Type 0
-IsLine size buffer line.End = Unit {0}
-IsLine size buffer (line.Whole n) = (n < size) × NoEnd (take n buffer)
-IsLine size buffer line.Long = NoEnd buffer
+abbrev pub IsLine : (size : ℕ) → (buffer : List ℕ) → Option Line → Type 0
+IsLine size buffer None = Unit {0}
+IsLine size buffer (Some (line.Whole n)) = (n < size) × NoEnd (take n buffer)
+IsLine size buffer (Some line.Long) = NoEnd buffer
 
 -- what the bytes before the end of the input are
-abbrev pub last_line : (n : ℕ) → Line
-last_line n = cond (eqb n 0) line.End (line.Whole n)
+abbrev pub last_line : (n : ℕ) → Option Line
+last_line n = cond (eqb n 0) None (Some (line.Whole n))

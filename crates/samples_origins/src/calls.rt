@@ -1,16 +1,13 @@
 // One call on a given state: `on origins: pri@0=28,32,36,40 stackcells@0=7,0,0,0,7 : live 8192 8195`.
-ghost use Rattle.std.specs.Prelude.{◌≡◌, ◌||◌, ◌≤◌, length, replicate};
-ghost use Rattle.samples_bytes.specs.Changes.{differ};
+ghost use Rattle.std.specs.Prelude.{◌≡◌, ◌≤◌, length, replicate};
 ghost use Rattle.samples_state.specs.Figures.{Fit};
 ghost use Rattle.samples_state.specs.State.{state, five, first, give_all, is_given};
 
 use crate::named;
-use crate::named::Asked;
 use map::Map;
 use origins_base::{Counted, OriginsCall};
 use samples_output::change;
 use samples_state::figures::Figures;
-use samples_text::Place;
 use std::io::Stdout;
 
 // The call on the first bytes of the buffers, under the map of all samples.
@@ -77,20 +74,22 @@ fn answer_call(
 ) -> u64
     requires { Fit f }
 {
-    let Asked::Call(kind, call) = named::call_at(line, at) else {
+    let Some(asked) = named::call_at(line, at) else {
         samples_output::malformed(output);
         return f.counter;
     };
-    let told = step(call, heap, primary, secondary, heap_cells, stack_cells, f);
+    let told = step(
+        asked.call,
+        heap,
+        primary,
+        secondary,
+        heap_cells,
+        stack_cells,
+        f,
+    );
     let answer = told.answer;
-    samples_output::write_answer(output, kind, answer);
+    samples_output::write_answer(output, asked.kind, answer);
     told.counter
-}
-
-fn change_in(output: Stdout, name: &[u8], old: &[u8; 136], new: &[u8; 136], told: bool) -> bool
-    ensures { result ≡ (differ old.now new.now || told) }
-{
-    change(output, name, old, new, told)
 }
 
 // The answer, each shadow that the call changed, and the counter if it did; a question mark where the call is malformed.
@@ -115,7 +114,7 @@ pub fn answer(output: Stdout, line: &[u8], at: usize) -> bool
     );
     let place = given.call;
     let figures = given.figures;
-    let Place::At(colon) = place else {
+    let Some(colon) = place else {
         return false;
     };
     let heap_was = heap;
@@ -134,11 +133,11 @@ pub fn answer(output: Stdout, line: &[u8], at: usize) -> bool
         &mut stack_cells,
         figures,
     );
-    let mut told = change_in(output, b" heap@", &heap_was, &heap, false);
-    told = change_in(output, b" pri@", &primary_was, &primary, told);
-    told = change_in(output, b" sec@", &secondary_was, &secondary, told);
-    told = change_in(output, b" heapcells@", &heap_cells_were, &heap_cells, told);
-    told = change_in(
+    let mut told = change(output, b" heap@", &heap_was, &heap, false);
+    told = change(output, b" pri@", &primary_was, &primary, told);
+    told = change(output, b" sec@", &secondary_was, &secondary, told);
+    told = change(output, b" heapcells@", &heap_cells_were, &heap_cells, told);
+    told = change(
         output,
         b" stackcells@",
         &stack_cells_were,

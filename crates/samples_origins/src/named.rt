@@ -1,53 +1,53 @@
 // A call by its name.
-use calls_origins_format::{Decoded, Request};
+use calls_origins_format::Request;
 use monitor_base::{Call, Update};
 use origins_base::OriginsCall;
-use samples_records::Item;
 
+// The kind that says which fields are told, 0 for none, and the call.
 #[derive(Clone, Copy)]
-pub enum Asked {
-    Malformed,
-    // The kind of its record, 0 where it has none, and the call.
-    Call(u32, OriginsCall),
+pub struct Asked {
+    pub kind: u32,
+    pub call: OriginsCall,
 }
 
 // No name is the map's, so that its record does not come up.
-fn plain_call(kind: u32, request: calls_format::Request) -> Asked {
+fn plain_call(request: calls_format::Request) -> Option<OriginsCall> {
     match request {
-        calls_format::Request::NewMap(_) => Asked::Malformed,
-        calls_format::Request::Call(call) => Asked::Call(kind, OriginsCall::Plain(call)),
+        calls_format::Request::NewMap(_) => None,
+        calls_format::Request::Call(call) => Some(OriginsCall::Plain(call)),
     }
 }
 
-fn call_of(kind: u32, request: Request) -> Asked {
+fn call_of(request: Request) -> Option<OriginsCall> {
     match request {
-        Request::Plain(asked) => plain_call(kind, asked),
-        Request::Pointer(pointer) => Asked::Call(kind, OriginsCall::Pointer(pointer)),
+        Request::Plain(asked) => plain_call(asked),
+        Request::Pointer(pointer) => Some(OriginsCall::Pointer(pointer)),
     }
 }
 
 // A call that has a record.
-fn recorded(line: &[u8], at: usize) -> Asked {
+fn recorded(line: &[u8], at: usize) -> Option<Asked> {
     let mut bytes = [0u8; 64];
-    let Item::Record(n, _) = samples_records::call_at(line, at, &mut bytes) else {
-        return Asked::Malformed;
-    };
-    let Decoded::Call(request) = crate::decode(&bytes, n) else {
-        return Asked::Malformed;
-    };
-    call_of(calls_origins_kinds::kind_of(request), request)
+    let record = samples_records::call_at(line, at, &mut bytes)?;
+    let request = crate::decode(&bytes, record)?;
+    Some(Asked {
+        kind: calls_origins_kinds::kind_of(request),
+        call: call_of(request)?,
+    })
 }
 
 // The call that ends the line. Clear has no record of its own.
-pub fn call_at(line: &[u8], at: usize) -> Asked {
+pub fn call_at(line: &[u8], at: usize) -> Option<Asked> {
     let start = samples_text::skip_spaces(line, at);
-    let clear = samples_text::after_name(line, start, b"clear");
-    if start == clear {
+    let Some(clear) = samples_text::after_name(line, start, b"clear") else {
         return recorded(line, start);
-    }
+    };
     if samples_text::at_end(line, clear) {
-        Asked::Call(0, OriginsCall::Plain(Call::Update(Update::Clear)))
+        Some(Asked {
+            kind: 0,
+            call: OriginsCall::Plain(Call::Update(Update::Clear)),
+        })
     } else {
-        Asked::Malformed
+        None
     }
 }

@@ -1,17 +1,10 @@
 // Records for the calls program: `run origins: 1 4096 64 8192 32; 2 8192 4; 11 8192 8192`.
-use calls_origins_format::Decoded;
 use map::Map;
 use samples_output::{gap, write, write_line};
-use samples_records::Item;
+use samples_records::Record;
 use std::io::Stdout;
 
-#[derive(Clone, Copy)]
-pub enum After {
-    Stop,
-    Kept(Map, u64),
-}
-
-// The line of a record; the map and the counter after it.
+// The line of a record; the map and the counter after it, none where no call is decoded.
 fn answer_record(
     output: Stdout,
     map: Map,
@@ -22,11 +15,11 @@ fn answer_record(
     stack_cells: &mut [u8; 32768],
     counter: u64,
     bytes: &[u8; 64],
-    n: usize,
-) -> After {
-    let Decoded::Call(request) = crate::decode(bytes, n) else {
+    record: Record,
+) -> Option<(Map, u64)> {
+    let Some(request) = crate::decode(bytes, record) else {
         write(output, b"9");
-        return After::Stop;
+        return None;
     };
     let served = calls_origins_serve::serve(
         map,
@@ -40,8 +33,7 @@ fn answer_record(
     );
     let answer = served.answer;
     write_line(output, calls_origins_kinds::kind_of(request), answer);
-    let map = served.map;
-    After::Kept(map, served.counter)
+    Some((served.map, served.counter))
 }
 
 // Their lines, with semicolons between. Text that is no record ends them.
@@ -63,15 +55,15 @@ pub fn answer(output: Stdout, line: &[u8], at: usize) {
     write(output, b" =>");
     for i in 0..4096u32 {
         let item = samples_records::item_at(line, place, &mut bytes);
-        if let Item::End = item {
+        if let Ok(None) = item {
             return;
         }
         gap(output, i);
-        let Item::Record(n, end) = item else {
+        let Ok(Some(record)) = item else {
             write(output, b"?");
             return;
         };
-        let After::Kept(map_after, counter_after) = answer_record(
+        let Some((map_after, counter_after)) = answer_record(
             output,
             map,
             &mut heap,
@@ -81,12 +73,12 @@ pub fn answer(output: Stdout, line: &[u8], at: usize) {
             &mut stack_cells,
             counter,
             &bytes,
-            n,
+            record,
         ) else {
             return;
         };
         map = map_after;
         counter = counter_after;
-        place = end;
+        place = record.end;
     }
 }

@@ -21,52 +21,43 @@ pub fn malformed(output: Stdout) {
     write(output, b" => ?");
 }
 
-// A number after a space.
-fn spaced(output: Stdout, v: u32) {
-    write(output, b" ");
-    write_number(output, v as u64);
-}
-
 // The number, then as many fields as calls of this kind have, on a refusal too.
 pub fn write_answer(output: Stdout, kind: u32, r: Answer) {
-    write(output, b" =>");
-    spaced(output, r.number);
-    match kind {
-        6 | 7 | 13 | 15 => spaced(output, r.first),
-        8 => {
-            spaced(output, r.first);
-            spaced(output, r.second);
-        }
-        5 | 9 => {
-            spaced(output, r.first);
-            spaced(output, r.second);
-            spaced(output, r.third);
-            spaced(output, r.fourth);
-        }
-        _ => {}
-    }
+    let Answer {
+        number,
+        first,
+        second,
+        third,
+        fourth,
+    } = r;
+    let told = match kind {
+        6 | 7 | 13 | 15 => print!(output; " => {number} {first}"),
+        8 => print!(output; " => {number} {first} {second}"),
+        5 | 9 => print!(output; " => {number} {first} {second} {third} {fourth}"),
+        _ => print!(output; " => {number}"),
+    };
+    told.is_ok();
 }
 
 // The same for place, which has no kind.
 pub fn write_room(output: Stdout, r: Answer) {
-    write(output, b" =>");
-    spaced(output, r.number);
-    spaced(output, r.first);
-    spaced(output, r.second);
-    spaced(output, r.third);
+    let Answer {
+        number,
+        first,
+        second,
+        third,
+        ..
+    } = r;
+    print!(output; " => {number} {first} {second} {third}").is_ok();
 }
 
-fn write_bytes(output: Stdout, shadow: &[u8], start: usize, end: usize) {
-    let mut i = start;
-    while i < end {
-        if shadow.len() <= i {
-            return;
-        }
-        if start < i {
+// The bytes as numbers, with commas between.
+fn write_bytes(output: Stdout, bytes: &[u8]) {
+    for (i, byte) in bytes.iter().enumerate() {
+        if 0 < i {
             write(output, b",");
         }
-        write_number(output, number_words::wide(shadow[i]) as u64);
-        i += 1;
+        write_number(output, u64::from(*byte));
     }
 }
 
@@ -82,16 +73,15 @@ pub fn change(output: Stdout, name: &[u8], old: &[u8], new: &[u8], told: bool) -
     requires { length old.now ≡ length new.now }
     ensures { result ≡ (differ old.now new.now || told) }
 {
-    let end = samples_bytes::changes::change_end(old, new);
-    if end == 0 {
-        return told;
-    }
-    begin_changes(output, told);
     let start = samples_bytes::changes::change_start(old, new);
+    let end = samples_bytes::changes::change_end(old, new);
+    let (Some(start), Some(end)) = (start, end) else {
+        return told;
+    };
+    begin_changes(output, told);
     write(output, name);
-    write_number(output, start as u64);
-    write(output, b"=");
-    write_bytes(output, new, start, end);
+    print!(output; "{start}=").is_ok();
+    write_bytes(output, &new[start..end]);
     true
 }
 
@@ -99,8 +89,7 @@ pub fn change(output: Stdout, name: &[u8], old: &[u8], new: &[u8], told: bool) -
 pub fn counter_change(output: Stdout, old: u64, new: u64, told: bool) {
     if old != new {
         begin_changes(output, told);
-        write(output, b" counter=");
-        write_number(output, new);
+        print!(output; " counter={new}").is_ok();
     }
 }
 
@@ -112,21 +101,11 @@ pub fn gap(output: Stdout, i: u32) {
     write(output, b" ");
 }
 
-fn write_first(output: Stdout, text: &[u8], n: usize) {
-    if n <= text.len() {
-        write(output, &text[0..n]);
-    }
-}
-
-fn all_but_last(output: Stdout, text: &[u8; 64], n: usize) {
-    if 0 < n {
-        write_first(output, text, n - 1);
-    }
-}
-
 // A line of the calls program without its line end.
 pub fn write_line(output: Stdout, kind: u32, r: Answer) {
     let mut text = [0u8; 64];
     let n = calls_lines::render(&mut text, kind, r);
-    all_but_last(output, &text, n);
+    if let Some((_, line)) = text[..n].split_last() {
+        write(output, line);
+    }
 }

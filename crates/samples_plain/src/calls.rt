@@ -1,14 +1,11 @@
 // One call on given shadow bytes: `on: heap@8=1,0 pri@0=4 : ask 4104`, or, on the desk, `on desk: ..`.
-ghost use Rattle.std.specs.Prelude.{◌≡◌, false, ◌||◌, replicate};
-ghost use Rattle.samples_bytes.specs.Changes.{differ};
+ghost use Rattle.std.specs.Prelude.{◌≡◌, replicate};
 ghost use Rattle.samples_bytes.specs.Given.{is_given, store_all};
 
-use calls_format::{Decoded, Request};
+use calls_format::Request;
 use map::{Form, Map};
 use monitor::{Answer, Call, PlainCall, Update};
 use samples_output::{change, malformed, write_answer, write_room};
-use samples_records::Item;
-use samples_text::{Number, Place};
 use std::io::Stdout;
 
 // The call, under the map of all samples.
@@ -47,6 +44,13 @@ fn answer_request(
     }
 }
 
+// The record of the call whose name stands there.
+fn request_at(line: &[u8], at: usize) -> Option<Request> {
+    let mut bytes = [0u8; 64];
+    let record = samples_records::call_at(line, at, &mut bytes)?;
+    crate::decode(&bytes, record)
+}
+
 // A call that has a record.
 fn answer_named(
     output: Stdout,
@@ -57,16 +61,10 @@ fn answer_named(
     primary: &mut [u8; 32],
     secondary: &mut [u8; 32],
 ) {
-    let mut bytes = [0u8; 64];
-    let Item::Record(n, _) = samples_records::call_at(line, at, &mut bytes) else {
-        malformed(output);
-        return;
-    };
-    let Decoded::Call(request) = crate::decode(&bytes, n) else {
-        malformed(output);
-        return;
-    };
-    answer_request(output, form, request, heap, primary, secondary);
+    match request_at(line, at) {
+        Some(request) => answer_request(output, form, request, heap, primary, secondary),
+        None => malformed(output),
+    }
 }
 
 // Clear has no record of its own, and no number.
@@ -92,11 +90,22 @@ fn answer_clear(
 }
 
 // The number after spaces.
-fn next_number(line: &[u8], at: usize) -> Number {
+fn next_number(line: &[u8], at: usize) -> Option<(u32, usize)> {
     samples_text::number_at(line, samples_text::skip_spaces(line, at))
 }
 
-// Place has no record either: a length and a budget end its line.
+// A length and a budget, which end the line.
+fn place_at(line: &[u8], at: usize) -> Option<PlainCall> {
+    let (length, after) = next_number(line, at)?;
+    let (budget, end) = next_number(line, after)?;
+    if samples_text::at_end(line, end) {
+        Some(PlainCall::Place(length, budget))
+    } else {
+        None
+    }
+}
+
+// Place has no record either.
 fn answer_place(
     output: Stdout,
     form: Form,
@@ -106,27 +115,9 @@ fn answer_place(
     primary: &mut [u8; 32],
     secondary: &mut [u8; 32],
 ) {
-    let Number::Is(length, after) = next_number(line, at) else {
-        malformed(output);
-        return;
-    };
-    let Number::Is(budget, end) = next_number(line, after) else {
-        malformed(output);
-        return;
-    };
-    if samples_text::at_end(line, end) {
-        write_room(
-            output,
-            step(
-                form,
-                PlainCall::Place(length, budget),
-                heap,
-                primary,
-                secondary,
-            ),
-        );
-    } else {
-        malformed(output);
+    match place_at(line, at) {
+        Some(call) => write_room(output, step(form, call, heap, primary, secondary)),
+        None => malformed(output),
     }
 }
 
@@ -140,29 +131,15 @@ fn answer_call(
     secondary: &mut [u8; 32],
 ) {
     let start = samples_text::skip_spaces(line, at);
-    let clear = samples_text::after_name(line, start, b"clear");
-    if start != clear {
+    if let Some(clear) = samples_text::after_name(line, start, b"clear") {
         answer_clear(output, form, line, clear, heap, primary, secondary);
         return;
     }
-    let place = samples_text::after_name(line, start, b"place");
-    if start != place {
+    if let Some(place) = samples_text::after_name(line, start, b"place") {
         answer_place(output, form, line, place, heap, primary, secondary);
         return;
     }
     answer_named(output, form, line, start, heap, primary, secondary);
-}
-
-fn heap_change(output: Stdout, old: &[u8; 64], new: &[u8; 64]) -> bool
-    ensures { result ≡ (differ old.now new.now || false) }
-{
-    change(output, b" heap@", old, new, false)
-}
-
-fn stack_change(output: Stdout, name: &[u8], old: &[u8; 32], new: &[u8; 32], told: bool) -> bool
-    ensures { result ≡ (differ old.now new.now || told) }
-{
-    change(output, name, old, new, told)
 }
 
 // The answer, and each shadow that the call changed, or a question mark where the call is malformed.
@@ -173,13 +150,8 @@ pub fn answer(output: Stdout, form: Form, line: &[u8], at: usize) -> bool
     let mut heap = [0u8; 64];
     let mut primary = [0u8; 32];
     let mut secondary = [0u8; 32];
-    let Place::At(colon) = samples_bytes::store_all(
-        line,
-        at,
-        &mut heap,
-        &mut primary,
-        &mut secondary,
-    ) else {
+    let Some(colon) = samples_bytes::store_all(line, at, &mut heap, &mut primary, &mut secondary)
+    else {
         return false;
     };
     let heap_was = heap;
@@ -194,8 +166,8 @@ pub fn answer(output: Stdout, form: Form, line: &[u8], at: usize) -> bool
         &mut primary,
         &mut secondary,
     );
-    let in_heap = heap_change(output, &heap_was, &heap);
-    let in_primary = stack_change(output, b" pri@", &primary_was, &primary, in_heap);
-    stack_change(output, b" sec@", &secondary_was, &secondary, in_primary);
+    let mut told = change(output, b" heap@", &heap_was, &heap, false);
+    told = change(output, b" pri@", &primary_was, &primary, told);
+    change(output, b" sec@", &secondary_was, &secondary, told);
     true
 }

@@ -4,17 +4,10 @@
 pub mod calls;
 pub mod runs;
 
-use calls_format::Decoded;
+use calls_format::Request;
+use samples_records::Record;
 
-fn decode_first(bytes: &[u8], n: usize) -> Decoded {
-    if n <= bytes.len() {
-        calls_records::decode(&bytes[0..n])
-    } else {
-        Decoded::Undecodable
-    }
-}
-
-// The record of the first n bytes, by the decoder of the calls program.
-fn decode(bytes: &[u8; 64], n: usize) -> Decoded {
-    decode_first(bytes, n)
+// What a record, which is the first bytes, says to the decoder of the calls program.
+fn decode(bytes: &[u8; 64], record: Record) -> Option<Request> {
+    calls_records::decode(bytes.get(..record.length)?)
 }

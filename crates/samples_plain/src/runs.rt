@@ -1,17 +1,10 @@
 // Records for the calls program, with semicolons between: `run: 1 4096 64 8192 32; 2 4104 1`.
-use calls_format::Decoded;
 use map::Map;
 use samples_output::{gap, write, write_line};
-use samples_records::Item;
+use samples_records::Record;
 use std::io::Stdout;
 
-#[derive(Clone, Copy)]
-pub enum After {
-    Stop,
-    Map(Map),
-}
-
-// The line of a record, and the map after it.
+// The line of a record, and the map after it; none where no call is decoded.
 fn answer_record(
     output: Stdout,
     map: Map,
@@ -19,19 +12,19 @@ fn answer_record(
     primary: &mut [u8; 16384],
     secondary: &mut [u8; 16384],
     bytes: &[u8; 64],
-    n: usize,
-) -> After {
-    let Decoded::Call(request) = crate::decode(bytes, n) else {
+    record: Record,
+) -> Option<Map> {
+    let Some(request) = crate::decode(bytes, record) else {
         write(output, b"9");
-        return After::Stop;
+        return None;
     };
     let served = calls_serve::serve(map, heap, primary, secondary, request);
     write_line(output, calls_kinds::kind_of(request), served.answer);
-    let map = served.map;
-    After::Map(map)
+    Some(served.map)
 }
 
 // Their lines, with semicolons between. Text that is no record ends them.
+// The form with origins has this loop too: what a record changes differs, and a closure over all of that would be no plainer.
 pub fn answer(output: Stdout, line: &[u8], at: usize) {
     let mut heap = [0u8; 32768];
     let mut primary = [0u8; 16384];
@@ -47,26 +40,26 @@ pub fn answer(output: Stdout, line: &[u8], at: usize) {
     write(output, b" =>");
     for i in 0..4096u32 {
         let item = samples_records::item_at(line, place, &mut bytes);
-        if let Item::End = item {
+        if let Ok(None) = item {
             return;
         }
         gap(output, i);
-        let Item::Record(n, end) = item else {
+        let Ok(Some(record)) = item else {
             write(output, b"?");
             return;
         };
-        let After::Map(kept) = answer_record(
+        let Some(kept) = answer_record(
             output,
             map,
             &mut heap,
             &mut primary,
             &mut secondary,
             &bytes,
-            n,
+            record,
         ) else {
             return;
         };
         map = kept;
-        place = end;
+        place = record.end;
     }
 }

@@ -1,22 +1,22 @@
 -- The names of the calls that have a record. Assumes nothing.
-use Rattle.std.specs.Prelude.{cond, List, [], ◌∷◌, ◌++◌, ℕ, ltb, eqb}
+use Rattle.std.specs.Prelude.{List, [], ◌∷◌, ◌++◌, Option, Some, None, ℕ}
 use Rattle.samples_records.specs.declared.names.Named.{Named}
-use Rattle.samples_text.specs.Text.{after_name}
+use Rattle.samples_text.specs.Text.{after_name, by_place}
 
--- the first of some names that stands at place p, with the place after it; kind 0, and p itself, where none does
-unfoldable pub name_in : (line : List ℕ) → (p : ℕ) → (names : List (List ℕ × ℕ)) → Named
-name_in line p [] = record { kind = 0; at = p }
-name_in line p (n ∷ ns) =
-    cond (eqb (after_name line p n.0) p) (name_in line p ns) (record { kind = n.1; at = after_name line p n.0 })
+-- the first of some names that stands at place p, with the place after it
+unfoldable pub name_in : (line : List ℕ) → (p : ℕ) → (names : List (List ℕ × ℕ)) → Option Named
+name_in line p [] = None
+name_in line p (n ∷ ns) = by_place (after_name line p n.0) (name_in line p ns) (λ e. Some (record { kind = n.1; end = e }))
 
 -- what is found by now, or this name
-unfoldable pub or_named : (line : List ℕ) → Named → (name : List ℕ × ℕ) → Named
-or_named line f n = cond (ltb 0 f.kind) f (name_in line f.at (n ∷ []))
+unfoldable pub or_named : (line : List ℕ) → (p : ℕ) → Option Named → (name : List ℕ × ℕ) → Option Named
+or_named line p None n = name_in line p (n ∷ [])
+or_named line p (Some f) n = Some f
 
 -- one name after another
-abbrev pub or_names : (line : List ℕ) → Named → (names : List (List ℕ × ℕ)) → Named
-or_names line f [] = f
-or_names line f (n ∷ ns) = or_names line (or_named line f n) ns
+abbrev pub or_names : (line : List ℕ) → (p : ℕ) → Option Named → (names : List (List ℕ × ℕ)) → Option Named
+or_names line p f [] = f
+or_names line p f (n ∷ ns) = or_names line p (or_named line p f n) ns
 
 -- the calls that change shadows: each name and its kind
 abbrev pub changing_names : List (List ℕ × ℕ)

@@ -3,19 +3,17 @@
 
 pub mod figures;
 
-ghost use Rattle.std.specs.Prelude.{◌≡◌, ◌≤◌, length};
-ghost use Rattle.samples_bytes.specs.Given.{ended};
+ghost use Rattle.std.specs.Prelude.{◌≡◌, ◌≤◌, length, IfSome};
+ghost use Rattle.samples_bytes.specs.Given as given;
 ghost use Rattle.samples_state.specs.Figures.{Fit};
-ghost use Rattle.samples_state.specs.State.{store_first, state, five, first, stored, store_any, part_at, give_all};
+ghost use Rattle.samples_state.specs.State.{store_first, state, five, first, stored, store_any, part_at, end_of, figures_after, give_all};
 
 use figures::{Figures, Part};
-use samples_bytes::larger;
-use samples_text::Place;
 
-// Bytes of the shadow of this name, which is the first n bytes of a buffer; the place itself where they do not stand there.
-fn store_first(line: &[u8], at: usize, name: &[u8], buffer: &mut [u8], n: usize) -> usize
+// Bytes of the shadow of this name, which is the first n bytes of a buffer, and the place after them.
+fn store_first(line: &[u8], at: usize, name: &[u8], buffer: &mut [u8], n: usize) -> Option<usize>
     requires { n ≤ length buffer.old }
-    ensures { ended result buffer.new ≡ store_first n line.now at name.now buffer.old }
+    ensures { given.stored result buffer.new ≡ store_first n line.now at name.now buffer.old }
 {
     samples_bytes::store_named(line, at, name, &mut buffer[0..n])
 }
@@ -30,7 +28,7 @@ fn store_any(
     heap_cells: &mut [u8; 136],
     stack_cells: &mut [u8; 136],
     f: Figures,
-) -> usize
+) -> Option<usize>
     requires { Fit f }
     ensures { stored result (five heap.new primary.new secondary.new heap_cells.new stack_cells.new)
         ≡ store_any line.now at f
@@ -41,7 +39,7 @@ fn store_any(
     let s = store_first(line, at, b"sec@", secondary, f.secondary);
     let hc = store_first(line, at, b"heapcells@", heap_cells, f.heap_cells);
     let sc = store_first(line, at, b"stackcells@", stack_cells, f.stack_cells);
-    larger(larger(h, larger(p, s)), larger(hc, sc))
+    h.or(p).or(s).or(hc).or(sc)
 }
 
 // Bytes, a length or the counter: no more than one of the names stands there.
@@ -54,13 +52,13 @@ fn part_at(
     heap_cells: &mut [u8; 136],
     stack_cells: &mut [u8; 136],
     f: Figures,
-) -> Part
+) -> Option<Part>
     requires { Fit f }
-    ensures { (stored result.at (state result.figures
+    ensures { (stored (end_of result) (state (figures_after f result)
         (five heap.new primary.new secondary.new heap_cells.new stack_cells.new))
         ≡ part_at line.now at (state f
         (five heap.old primary.old secondary.old heap_cells.old stack_cells.old)))
-        × Fit result.figures }
+        × IfSome result (λ t. Fit t.figures) }
 {
     let stored = store_any(
         line,
@@ -72,18 +70,16 @@ fn part_at(
         stack_cells,
         f,
     );
-    let part = figures::figures_at(line, at, f);
-    let figures = part.figures;
-    Part {
-        at: larger(stored, part.at),
-        figures,
+    if let Some(end) = stored {
+        return Some(Part { figures: f, end });
     }
+    figures::figures_at(line, at, f)
 }
 
-// The place after the colon that ends a state, and its figures.
+// The figures of a state, and the place after the colon that ends it, where it has one.
 #[derive(Clone, Copy)]
 pub struct Given {
-    pub call: Place,
+    pub call: Option<usize>,
     pub figures: Figures,
 }
 
@@ -114,19 +110,19 @@ pub fn give(
     let mut place = at;
     for _ in 0..4096u32 {
         let start = samples_text::skip_spaces(line, place);
-        if let Place::At(call) = samples_text::after(line, start, b':') {
+        if let Some(call) = samples_text::after(line, start, b':') {
             return Given {
-                call: Place::At(call),
+                call: Some(call),
                 figures,
             };
         }
         if start == place {
             return Given {
-                call: Place::Missing,
+                call: None,
                 figures,
             };
         }
-        let part = part_at(
+        let Some(part) = part_at(
             line,
             start,
             heap,
@@ -135,18 +131,17 @@ pub fn give(
             heap_cells,
             stack_cells,
             figures,
-        );
-        figures = part.figures;
-        place = part.at;
-        if place == start {
+        ) else {
             return Given {
-                call: Place::Missing,
+                call: None,
                 figures,
             };
-        }
+        };
+        figures = part.figures;
+        place = part.end;
     }
     Given {
-        call: Place::Missing,
+        call: None,
         figures,
     }
 }

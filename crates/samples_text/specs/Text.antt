@@ -1,12 +1,6 @@
 -- What a line says at a place: gaps, words and numbers. Assumes nothing.
-use Rattle.std.specs.Prelude.{Bool, true, false, cond, ◌&&◌, ◌||◌, List, [], ◌∷◌, ℕ, suc, ◌+◌, ◌*◌, ◌-◌, length, drop, leb, ltb, eqb}
+use Rattle.std.specs.Prelude.{Bool, true, false, cond, ◌&&◌, ◌||◌, List, [], ◌∷◌, Option, Some, None, ℕ, suc, ◌+◌, ◌*◌, ◌-◌, length, drop, leb, ltb, eqb}
 use Rattle.number.specs.Parts.{at}
-use Rattle.samples_text.specs.declared.Long.{Long}
-use Rattle.samples_text.specs.declared.Long.TheVariants as long
-use Rattle.samples_text.specs.declared.Number.{Number}
-use Rattle.samples_text.specs.declared.Number.TheVariants as number
-use Rattle.samples_text.specs.declared.Place.{Place}
-use Rattle.samples_text.specs.declared.Place.TheVariants as place
 
 -- how many of the first bytes are spaces or another byte
 unfoldable pub leading : (other : ℕ) → (text : List ℕ) → ℕ
@@ -36,9 +30,14 @@ end_at line p = leb (length line) (skip_spaces line p)
 abbrev pub is_remark : (line : List ℕ) → Bool
 is_remark line = ends_by 35 line 0
 
+-- what follows where nothing was found, and at the place after what was
+abbrev pub by_place : {A : Type 0} → Option ℕ → A → ((end : ℕ) → A) → A
+by_place None m f = m
+by_place (Some e) m f = f e
+
 -- the place after a byte, where it is the one at p
-unfoldable pub after_byte : (line : List ℕ) → (p byte : ℕ) → Place
-after_byte line p byte = cond (ltb p (length line) && eqb (at line p) byte) (place.At (p + 1)) place.Missing
+unfoldable pub after_byte : (line : List ℕ) → (p byte : ℕ) → Option ℕ
+after_byte line p byte = cond (ltb p (length line) && eqb (at line p) byte) (Some (p + 1)) None
 
 -- the text begins with this word
 unfoldable pub begins : (word text : List ℕ) → Bool
@@ -46,13 +45,13 @@ begins [] text = true
 begins (w ∷ ws) [] = false
 begins (w ∷ ws) (b ∷ bs) = eqb b w && begins ws bs
 
--- the place after a word; p itself where the word does not stand there
-unfoldable pub after_word : (line : List ℕ) → (p : ℕ) → (word : List ℕ) → ℕ
-after_word line p word = cond (begins word (drop p line)) (p + length word) p
+-- the place after a word, where it stands at p
+unfoldable pub after_word : (line : List ℕ) → (p : ℕ) → (word : List ℕ) → Option ℕ
+after_word line p word = cond (begins word (drop p line)) (Some (p + length word)) None
 
 -- the same for a word that ends there: a space or the line's end follows
-unfoldable pub after_name : (line : List ℕ) → (p : ℕ) → (name : List ℕ) → ℕ
-after_name line p name = cond (ends_by 32 line (after_word line p name)) (after_word line p name) p
+unfoldable pub after_name : (line : List ℕ) → (p : ℕ) → (name : List ℕ) → Option ℕ
+after_name line p name = by_place (after_word line p name) None (λ e. cond (ends_by 32 line e) (Some e) None)
 
 abbrev pub is_digit : (byte : ℕ) → Bool
 is_digit b = leb 48 b && leb b 57
@@ -67,34 +66,24 @@ unfoldable pub value_from : (v : ℕ) → List ℕ → ℕ
 value_from v [] = v
 value_from v (b ∷ bs) = value_from (10 * v + (b - 48)) bs
 
--- a number that stands between two places; missing where they are one
-unfoldable pub between : (v start end : ℕ) → Long
-between v start end = cond (eqb start end) long.Missing (long.Is v end)
+-- a number that stands between two places; none where they are one
+unfoldable pub between : (v start end : ℕ) → Option (ℕ × ℕ)
+between v start end = cond (eqb start end) None (Some (v, end))
 
--- the decimal number at place p, and the place after its last digit; missing where it has more than 64 bits
-unfoldable pub long_at : (line : List ℕ) → (p : ℕ) → Long
+-- the decimal number at place p, and the place after its last digit; none where it has more than 64 bits
+unfoldable pub long_at : (line : List ℕ) → (p : ℕ) → Option (ℕ × ℕ)
 long_at line p =
-    cond (ltb 18446744073709551615 (value_from 0 (digits (drop p line)))) long.Missing
+    cond (ltb 18446744073709551615 (value_from 0 (digits (drop p line)))) None
     (between (value_from 0 (digits (drop p line))) p (p + length (digits (drop p line))))
 
--- the same number; missing where it has more than 32 bits
-abbrev pub short : Long → Number
-short long.Missing = number.Missing
-short (long.Is v e) = cond (ltb 4294967295 v) number.Missing (number.Is v e)
-
-unfoldable pub number_at : (line : List ℕ) → (p : ℕ) → Number
-number_at line p = short (long_at line p)
-
 -- what follows where no number stands, and where one does, with the place after it
-abbrev pub by_number : {A : Type 0} → Number → A → ((v end : ℕ) → A) → A
-by_number number.Missing m f = m
-by_number (number.Is v e) m f = f v e
+abbrev pub by_number : {A : Type 0} → Option (ℕ × ℕ) → A → ((v end : ℕ) → A) → A
+by_number None m f = m
+by_number (Some n) m f = f n.0 n.1
 
-abbrev pub by_long : {A : Type 0} → Long → A → ((v end : ℕ) → A) → A
-by_long long.Missing m f = m
-by_long (long.Is v e) m f = f v e
+-- the same number; none where it has more than 32 bits
+abbrev pub short : Option (ℕ × ℕ) → Option (ℕ × ℕ)
+short n = by_number n None (λ v e. cond (ltb 4294967295 v) None (Some (v, e)))
 
--- what follows where nothing was found, and at the place after what was
-abbrev pub by_place : {A : Type 0} → Place → A → ((end : ℕ) → A) → A
-by_place place.Missing m f = m
-by_place (place.At e) m f = f e
+unfoldable pub number_at : (line : List ℕ) → (p : ℕ) → Option (ℕ × ℕ)
+number_at line p = short (long_at line p)

@@ -9,14 +9,21 @@ ghost use Rattle.stack_audit_laws.specs.Turn as turn;
 ghost use Rattle.stack_audit_laws.specs.Rest.{Stands, Turned};
 
 use map::Position;
-use plain::Audit;
-use stack_audit_laws::{Moved, Walk};
+use plain::Totals;
+use stack_audit_laws::{Moved, Run, Walk};
 use stack_audit_runs::ahead;
 use stack_audit_walk::{after, current, literal_at, past, stands};
 use stack_audit_zeros::clear_to;
 
 // The turn past the one byte at q, of a block of length k, a literal or not, or of none where k is 0.
-fn one(primary: &[u8], secondary: &[u8], q: Position, w: Walk, k: u32, literal: bool) -> Moved
+fn one(
+    primary: &[u8],
+    secondary: &[u8],
+    q: Position,
+    w: Walk,
+    k: u32,
+    literal: bool,
+) -> Option<Moved>
     requires { Stands primary.now secondary.now q.0 w × (k ≡ turn.current (length primary.now) (at primary.now) (at secondary.now) q.0 w.len)
         × (literal ≡ turn.literal_at (at primary.now) q.0 w.i) }
     ensures { Turned primary.now secondary.now q.0 w result }
@@ -24,13 +31,16 @@ fn one(primary: &[u8], secondary: &[u8], q: Position, w: Walk, k: u32, literal: 
     let Position(at) = q;
     let x = primary[at];
     if !stands(x, secondary[at], k, w.i, literal) {
-        return Moved::NoImage;
+        return None;
     }
-    Moved::On(after(w, k, x & 1), 1)
+    Some(Moved {
+        walk: after(w, k, x & 1),
+        n: 1,
+    })
 }
 
 // The turn at q: past a run of bytes that are zero or of one block, else past one.
-fn turn(primary: &[u8], secondary: &[u8], q: Position, w: Walk) -> Moved
+fn turn(primary: &[u8], secondary: &[u8], q: Position, w: Walk) -> Option<Moved>
     requires { Stands primary.now secondary.now q.0 w }
     ensures { Turned primary.now secondary.now q.0 w result }
 {
@@ -40,20 +50,25 @@ fn turn(primary: &[u8], secondary: &[u8], q: Position, w: Walk) -> Moved
         let Position(at) = q;
         let Position(end) = clear_to(primary, secondary, q);
         if at < end {
-            return Moved::On(w, end - at);
+            return Some(Moved {
+                walk: w,
+                n: end - at,
+            });
         }
     } else {
-        let r = ahead(primary, secondary, q, k, w.i, literal);
-        let n = r.n;
+        let Run { n, written } = ahead(primary, secondary, q, k, w.i, literal);
         if n != 0 {
-            return Moved::On(past(w, k, n as u32, r.written), n);
+            return Some(Moved {
+                walk: past(w, k, n as u32, written),
+                n,
+            });
         }
     }
     one(primary, secondary, q, w, k, literal)
 }
 
-// The totals of the blocks of which the shadows are the image, or no image.
-pub fn audit(primary: &[u8], secondary: &[u8]) -> Audit
+// The totals of the blocks of which the shadows are the image; None where they are no image.
+pub fn audit(primary: &[u8], secondary: &[u8]) -> Option<Totals>
     requires { (length primary.now ≡ length secondary.now) × (length primary.now ≤ 65536) }
     ensures { stack_tally result ≡ (stack_ops (length primary.now)).audit (primary.now, secondary.now) }
 {
@@ -65,19 +80,18 @@ pub fn audit(primary: &[u8], secondary: &[u8]) -> Audit
         written: 0,
     };
     let mut q = 0;
+    // a `while`, since each turn tells its own step
     while q < primary.len() {
-        match turn(primary, secondary, Position(q), w) {
-            Moved::On(v, n) => {
-                w = v;
-                q += n;
-            }
-            Moved::NoImage => {
-                return Audit::NoImage;
-            }
-        }
+        let Moved { walk, n } = turn(primary, secondary, Position(q), w)?;
+        w = walk;
+        q += n;
     }
     if w.len == 0 {
-        return Audit::Totals(w.blocks, w.live, w.written);
+        return Some(Totals {
+            blocks: w.blocks,
+            live: w.live,
+            written: w.written,
+        });
     }
-    Audit::NoImage
+    None
 }

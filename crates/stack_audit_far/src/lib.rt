@@ -21,7 +21,8 @@ fn piece_bytes(literal: bool) -> u64
 }
 
 // How many of the n bytes at q are written, if they are whole pieces of a long block from its byte i on; 249 where that is not told. One pass with
-// no early way out, which runs at memory speed; modulo 255 the sum of the written bits is their number.
+// no early way out, which runs at memory speed; modulo 255 the sum of the written bits is their number. An Option as the answer was tried, with a
+// `while` and with a `for`: LLVM then leaves this loop scalar, and as it stands makes vectors of it.
 fn stretch(
     primary: &[u8],
     secondary: &[u8],
@@ -82,6 +83,7 @@ pub fn far(
     let Position(p) = q;
     let mut n: usize = 0;
     let mut written: u32 = 0;
+    // a `while`, since its step varies and its end is the result
     while n + 8 <= end {
         let m = taken(end - n);
         let ones = stretch(

@@ -11,7 +11,6 @@ use native.Mathlib.Nat.{add-zero, sub-zero, mod-lt}
 use lib.Dec.{leb, eqb, lit<}
 use borrow.Author.Tests.{ne_eqb, le-leb, lt-leb, eqb-true, eqb-false, leb-true, leb-false}
 use Rattle.number.specs.Bits.{bit}
-use Rattle.number.specs.Parts.{at}
 use Rattle.number.proofs.TestLaws.{Test, is_true, is_false, test, and-true, and_false_r, false_of}
 use Rattle.number.proofs.BitLaws.{bit_test}
 use Rattle.plain.specs.Reading.{Tally}

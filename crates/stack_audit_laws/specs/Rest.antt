@@ -1,5 +1,6 @@
 -- What is ahead of the audit's walk, and what a turn of its loop keeps. Assumes nothing.
-use Rattle.std.specs.Prelude.{◌≡◌, true, cond, List, ℕ, ◌+◌, ◌-◌, ◌≤◌, ◌<◌, max, length, eqb}
+use Rattle.std.specs.Prelude as std
+use Rattle.std.specs.Prelude.{Some, None, ◌≡◌, true, cond, List, ℕ, ◌+◌, ◌-◌, ◌≤◌, ◌<◌, max, length, eqb}
 use Rattle.std.proofs.Math.Option.{Option, none, some}
 use Rattle.number.specs.Bits.{ones}
 use Rattle.number.specs.Parts.{at}
@@ -9,7 +10,6 @@ use Rattle.plain.specs.Found.{Found, bad, got}
 use Rattle.stack_layout.specs.Walk.{stack_walk}
 use Rattle.stack_audit_laws.specs.declared.Walk.{Walk}
 use Rattle.stack_audit_laws.specs.declared.Moved.{Moved}
-use Rattle.stack_audit_laws.specs.declared.Moved.TheVariants.{On, NoImage}
 use Rattle.stack_audit_laws.specs.Turn.{literal_at}
 
 -- what is found, beside the blocks, live bytes and written bytes that were counted
@@ -41,7 +41,7 @@ pub record Stands (P S : List ℕ) (q : ℕ) (w : Walk) : Type 0 where
   pub small : length P ≤ 65536
   pub kept : Kept (length P) q w
 
--- a turn that goes on passes at least one byte, and leaves what the walk comes to as it was
-abbrev pub Turned : (P S : List ℕ) (q : ℕ) → Walk → Moved → Type 0
-Turned P S q w NoImage = rest P S q w ≡ none
-Turned P S q w (On v n) = (rest P S q w ≡ rest P S (q + n) v) × (1 ≤ n) × Kept (length P) (q + n) v
+-- a turn that goes on passes at least one byte, and leaves what the walk comes to as it was; none where the shadows are no image
+abbrev pub Turned : (P S : List ℕ) (q : ℕ) → Walk → std.Option Moved → Type 0
+Turned P S q w None = rest P S q w ≡ none
+Turned P S q w (Some m) = (rest P S q w ≡ rest P S (q + m.n) m.walk) × (1 ≤ m.n) × Kept (length P) (q + m.n) m.walk

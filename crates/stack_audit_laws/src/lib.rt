@@ -18,9 +18,9 @@ pub struct Run {
     pub written: u32,
 }
 
-// What a turn comes to: the walk past some bytes, and how many.
+// A turn that goes on: the walk past some bytes, and how many.
 #[derive(Clone, Copy)]
-pub enum Moved {
-    On(Walk, usize),
-    NoImage,
+pub struct Moved {
+    pub walk: Walk,
+    pub n: usize,
 }

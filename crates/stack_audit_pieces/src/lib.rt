@@ -3,28 +3,14 @@
 
 ghost use Rattle.std.specs.Prelude.{◌≡◌, ◌*◌, ◌/◌, ◌%◌, ◌<◌, ◌≤◌, min, eqb};
 ghost use Rattle.number.specs.Parts.{run_of};
-ghost use Rattle.stack_audit_laws.specs.Runs.{Inside, run_at, first_byte, climbs, own_run};
+ghost use Rattle.stack_audit_laws.specs.Runs.{Inside, run_at, climbs, own_run};
 
 use map::Position;
 use number_bits::{low, odds};
 use number_words::eight_at;
+use stack_audit_bytes::{climbing, first_byte};
 use stack_audit_far::far;
 use stack_audit_laws::Run;
-
-fn least(a: usize, b: usize) -> usize
-    ensures { result ≡ min a b }
-{
-    if a < b { a } else { b }
-}
-
-// The byte of a code, in a literal or in another block where it is not written.
-pub fn first_byte(code: u32, literal: bool) -> u64
-    requires { code ≤ 56 }
-    ensures { (result ≡ first_byte code literal) × (result ≤ 227) }
-{
-    let byte = 4 * (code as u64);
-    if literal { byte + 3 } else { byte }
-}
 
 // Whether n bytes of primary in x climb by 4 from the first one expected, and n bytes of secondary in y are those of pair. The written bits
 // of x are set in what is expected, which in a literal has them already.
@@ -32,7 +18,7 @@ pub fn holds(x: u64, y: u64, n: u32, first: u64, pair: u64) -> bool
     requires { (1 ≤ n) × (n ≤ 8) × (first ≤ 227) }
     ensures { result ≡ eqb (run_of (climbs x y first pair) 0 n) n }
 {
-    let bytes = 0x1C1814100C080400 + 0x0101010101010101 * first;
+    let bytes = climbing(first);
     (low(x, n) == low(bytes | (x & 0x0101010101010101), n)) & (low(y, n) == low(pair, n))
 }
 
@@ -42,20 +28,19 @@ pub fn pieces(primary: &[u8], secondary: &[u8], q: Position, len: u32, i: u32, l
     ensures { result ≡ run_at primary.now q.0 (own_run primary.now secondary.now q.0 len i literal / 8 * 8) }
 {
     let Position(at) = q;
-    let end = least(primary.len() - at, (len - i) as usize);
+    let end = (primary.len() - at).min((len - i) as usize);
     let first = first_byte(48, literal);
-    let r = far(primary, secondary, q, end, len, i, literal);
-    let mut n = r.n;
-    let mut written = r.written;
+    let Run { mut n, mut written } = far(primary, secondary, q, end, len, i, literal);
+    // a `while`, since its end is the result
     while n + 8 <= end {
         let x = eight_at(primary, at + n);
-        let o = (i as u64) + (n as u64);
+        let o = u64::from(i) + n as u64;
         if !holds(
             x,
             eight_at(secondary, at + n),
             8,
             first,
-            (len as u64) + 4294967296 * o,
+            u64::from(len) + 4294967296 * o,
         ) {
             return Run { n, written };
         }

@@ -9,7 +9,8 @@ use map::Position;
 use stack_audit_bytes::{code_at, low_bits, secondary_at, short_length};
 use stack_audit_laws::Walk;
 
-// The length that the first byte of a block tells, where there is room for it.
+// The length that the first byte of a block tells, where there is room for it. 0 is no block, as in `Walk` and its laws: the number read may be 0
+// itself, so an Option would ask for a test more.
 pub fn told(primary: &[u8], secondary: &[u8], q: Position) -> u32
     requires { (q.0 < length primary.now) × (length primary.now ≡ length secondary.now) × (length primary.now ≤ 65536) }
     ensures { result ≡ turn.told (length primary.now) (at primary.now) (at secondary.now) q.0 }
@@ -71,22 +72,22 @@ pub fn past(w: Walk, k: u32, n: u32, written: u32) -> Walk
 {
     let i = w.i + n;
     let live = w.live + n;
-    let marks = w.written + written;
+    let written = w.written + written;
     if k <= i {
         return Walk {
             len: 0,
             i: 0,
             blocks: w.blocks + 1,
-            live: live,
-            written: marks,
+            live,
+            written,
         };
     }
     Walk {
         len: k,
-        i: i,
-        blocks: w.blocks,
-        live: live,
-        written: marks,
+        i,
+        live,
+        written,
+        ..w
     }
 }
 
@@ -98,5 +99,5 @@ pub fn after(w: Walk, k: u32, written: u8) -> Walk
     if k == 0 {
         return w;
     }
-    past(w, k, 1, number_words::wide(written))
+    past(w, k, 1, u32::from(written))
 }

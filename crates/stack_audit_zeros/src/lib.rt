@@ -13,18 +13,15 @@ pub fn clear_to(primary: &[u8], secondary: &[u8], q: Position) -> Position
     requires { Inside primary.now secondary.now q.0 }
     ensures { result.0 ≡ clear_to primary.now secondary.now q.0 }
 {
+    // the end position is the result, so both loops count it themselves
     let mut p = q.0;
-    while p + 32 <= primary.len() {
-        if zero_32(primary, p) & zero_32(secondary, p) {
-            p += 32;
-        } else {
-            break;
-        }
+    while p + 32 <= primary.len() && zero_32(primary, p) & zero_32(secondary, p) {
+        p += 32;
     }
     while p + 8 <= primary.len() {
         let both = eight_at(primary, p) | eight_at(secondary, p);
         if both != 0 {
-            return Position(p + (number_bits::zero_bytes(both) as usize));
+            return Position(p + number_bits::zero_bytes(both) as usize);
         }
         p += 8;
     }

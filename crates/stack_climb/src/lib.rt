@@ -5,6 +5,7 @@ ghost use Rattle.std.specs.Prelude.{◌≡◌, ◌+◌, ◌-◌, ◌*◌, ◌≤
 ghost use Rattle.number.specs.Parts.{over};
 
 use map::Position;
+use stack_table::BITS_8;
 
 // Codes that climb by one, with one mark for all, in a whole part: each byte is 4 above the one before, so no division is needed.
 fn climb(part: &mut [u8], first: u8)
@@ -12,11 +13,9 @@ fn climb(part: &mut [u8], first: u8)
     ensures { part.new ≡ over 0 (length part.old) (λ i. first + 4 * i) part.old }
 {
     let mut byte = first;
-    let mut i = 0;
-    while i < part.len() {
-        part[i] = byte;
+    for b in part.iter_mut() {
+        *b = byte;
         byte += 4;
-        i += 1;
     }
 }
 
@@ -25,11 +24,7 @@ fn climb_eight(primary: &mut [u8], p: Position, first: u8)
     requires { (p.0 + 8 ≤ length primary.old) × (first + 28 ≤ 255) }
     ensures { primary.new ≡ over p.0 8 (λ x. first + 4 * (x - p.0)) primary.old }
 {
-    number_words::put_eight_at(
-        primary,
-        p.0,
-        0x0101010101010101 * (first as u64) + 0x1c1814100c080400,
-    );
+    number_words::put_eight_at(primary, p.0, BITS_8 * u64::from(first) + 0x1c1814100c080400);
 }
 
 // The same in the n bytes from p on, as a part that is lent.

@@ -7,9 +7,7 @@ ghost use Rattle.plain.specs.Ops.{mark_range};
 ghost use Rattle.stack_layout.specs.Ops.{StackShadows, stack_ops, with_written};
 
 use map::Position;
-
-// The written bits of four bytes as one number.
-const BITS_4: u32 = 0x01010101;
+use stack_table::BITS_4;
 
 // Sets the bits of the four bytes from k on, as one number: no byte carries into the next.
 fn mark_four(part: &mut [u8], k: usize)
@@ -24,10 +22,8 @@ fn mark_four(part: &mut [u8], k: usize)
 fn mark_all(part: &mut [u8])
     ensures { part.new ≡ over 0 (length part.old) (λ q. with_written (at part.old q)) part.old }
 {
-    let mut i = 0;
-    while i < part.len() {
-        part[i] = part[i] | 1;
-        i += 1;
+    for b in part.iter_mut() {
+        *b |= 1;
     }
 }
 
@@ -45,7 +41,7 @@ fn mark_part(part: &mut [u8])
         return;
     }
     if part.len() == 1 {
-        part[0] = part[0] | 1;
+        part[0] |= 1;
         return;
     }
     mark_all(part);

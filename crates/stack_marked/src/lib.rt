@@ -6,21 +6,15 @@ ghost use Rattle.plain.specs.Ops.{range_marked};
 ghost use Rattle.stack_layout.specs.Ops.{stack_ops};
 
 use map::Position;
-
-// The written bits of four bytes as one number, and of eight.
-const BITS_4: u32 = 0x01010101;
-
-const BITS_8: u64 = 0x0101010101010101;
+use stack_table::{BITS_4, BITS_8};
 
 // Whether each bit is set, byte by byte.
 fn all_marked(part: &[u8]) -> bool
     ensures { result ≡ range_marked (stack_ops (length part.now)) (part.now, []) 0 (length part.now) }
 {
     let mut seen: u8 = 1;
-    let mut k = 0;
-    while k < part.len() {
-        seen = seen & part[k];
-        k += 1;
+    for b in part {
+        seen &= *b;
     }
     seen == 1
 }

@@ -29,10 +29,6 @@ pub fn bad_piece(len: u32, o: u32, j: u32) -> bool
     requires { j < 15 }
     ensures { result ≡ bad_piece len o j }
 {
-    let left = std::num::wrapping_sub_u32(len, o);
-    (len < 9)
-        | (o % 8 != 0)
-        | (std::num::wrapping_sub_u32(len, 8) < o)
-        | ((7 < j) & (16 <= left))
-        | (left <= j)
+    let left = len.wrapping_sub(o);
+    (len < 9) | (o % 8 != 0) | (len.wrapping_sub(8) < o) | ((7 < j) & (16 <= left)) | (left <= j)
 }

@@ -12,14 +12,11 @@ pub fn vacant(primary: &[u8], secondary: &[u8], base: Position, len: u32) -> boo
     ensures { result ≡ stack_vacant (primary.now, secondary.now) base.0 len }
 {
     let q = base.0;
-    let n = len as usize;
-    if n == 4 {
-        return number_words::number_at(primary, q) | number_words::number_at(secondary, q) == 0;
+    match len as usize {
+        4 => number_words::number_at(primary, q) | number_words::number_at(secondary, q) == 0,
+        8 => number_words::eight_at(primary, q) | number_words::eight_at(secondary, q) == 0,
+        n => number_zeros::zero_at(primary, q, n) & number_zeros::zero_at(secondary, q, n),
     }
-    if n == 8 {
-        return number_words::eight_at(primary, q) | number_words::eight_at(secondary, q) == 0;
-    }
-    number_zeros::zero_at(primary, q, n) & number_zeros::zero_at(secondary, q, n)
 }
 
 // Zeros in the shadow bytes of a place.

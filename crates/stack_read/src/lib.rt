@@ -17,7 +17,8 @@ struct Spot {
     i: u32,
 }
 
-// Damage, as a length that fits in no area.
+// Damage, as a length that fits in no area, so that one test of the fit settles it too. As an `Option<Spot>`, tried, a caller of `read` had 122
+// instructions in place of 117: length and offset are packed into one register beside the tag, and unpacked for the test.
 fn damage() -> Spot
     ensures { (result.len ≡ 4294967295) × (result.i ≡ 0) }
 {
@@ -66,7 +67,7 @@ fn told(secondary: &[u8], p: Position, code: u8) -> Spot
     if 62 < code {
         return damage();
     }
-    told_long(secondary, p, number_words::wide(code) - 48)
+    told_long(secondary, p, u32::from(code) - 48)
 }
 
 // The reading of a position: the code is taken by shift, the two low bits by mask. Small enough for the compiler to take it into each caller,

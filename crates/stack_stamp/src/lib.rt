@@ -9,7 +9,7 @@ ghost use Rattle.stack_layout.specs.Ops.{StackShadows, stack_vacant, stack_stamp
 
 use map::Position;
 use plain::Beginning;
-use stack_table::codes_below;
+use stack_table::{BITS_4, BITS_8, BLOCK_4, BLOCK_8, codes_below};
 
 // The two low bits of each primary byte of a block as it begins.
 fn first_bits(how: Beginning) -> u8
@@ -29,12 +29,12 @@ fn stamp_pieces(primary: &mut [u8], base: Position, len: u32, bits: u8)
     ensures { primary.new ≡ over base.0 len (λ q. primary_of len (q - base.0) bits) primary.old }
 {
     let Position(b) = base;
-    let mut o: u32 = 0;
-    while o + 16 <= len {
-        let q = b + (o as usize);
+    let before = len / 8 - 1;
+    for piece in 0..before {
+        let q = b + 8 * (piece as usize);
         stack_climb::climb_at(primary, Position(q), 8, 192 + bits);
-        o += 8;
     }
+    let o = 8 * before;
     let last = b + (o as usize);
     stack_climb::climb_at(primary, Position(last), (len - o) as usize, 192 + bits);
 }
@@ -47,12 +47,12 @@ fn stamp_primary(primary: &mut [u8], base: Position, len: u32, bits: u8)
 {
     let Position(b) = base;
     if len == 4 {
-        let word = 0x2824201c + 0x01010101 * number_words::wide(bits);
+        let word = BLOCK_4 + BITS_4 * u32::from(bits);
         number_words::put_at(primary, b, word);
         return;
     }
     if len == 8 {
-        let word = 0x908c8884807c7874 + 0x0101010101010101 * (bits as u64);
+        let word = BLOCK_8 + BITS_8 * u64::from(bits);
         number_words::put_eight_at(primary, b, word);
         return;
     }
@@ -73,12 +73,11 @@ fn stamp_secondary(secondary: &mut [u8], base: Position, len: u32)
         return;
     }
     let Position(b) = base;
-    let mut o: u32 = 0;
-    while o + 8 <= len {
+    for piece in 0..len / 8 {
+        let o = 8 * piece;
         let q = b + (o as usize);
         number_words::put_at(secondary, q, len);
         number_words::put_at(secondary, q + 4, o);
-        o += 8;
     }
 }
 

@@ -42,14 +42,14 @@ returns-in_default c =
 -- the request is that of the first record
 request : (c : After-known_told)
     → records.decode (content c.refill-window.result c.refill-window.new.buffer)
-    ≡ some (requested c.in-Call.request)
-request c = sym (decoded c.before) ∙ ap decoded_of c.in-Call.is
+    ≡ some (requested c.in-Some.request)
+request c = sym (decoded c.before) ∙ ap decoded_of c.in-Some.is
 
 pub told-requires : goal.told-requires
 told-requires c = (
   c.refill-window.ensures.held,
   c.requires.1,
-  omega (arith, record-fits origins-whole c.refill-window.result c.refill-window.new.buffer (requested c.in-Call.request) (request c.before.before.before.before.before.before.before.before.before.before.before), c.length_of-length.ensures),
+  omega (arith, record-fits origins-whole c.refill-window.result c.refill-window.new.buffer (requested c.in-Some.request) (request c.before.before.before.before.before.before.before.before.before.before.before), c.length_of-length.ensures),
 )
 
 pub returns : goal.returns

@@ -1,46 +1,50 @@
 -- `heap_mark_from::mark_from` meets its contract: what is left to mark makes of the shadow what the whole range makes of it. Assumes nothing.
-use mathlib.Core.Path.{◌≡◌, refl, sym, ◌∙◌}
-use mathlib.Core.List.{List}
-use Prim.Native.Nat.{ℕ, ◌≤◌, ◌-◌, ◌+◌, ◌%◌}
-use native.Mathlib.Omega.{arith}
-use lib.ListN.{length}
-use borrow.Author.Rules.{rules}
-use Rattle.plain.specs.Ops.{mark_range}
+use Rattle.std.proofs.Common.{◌≡◌, ◌+◌, ◌-◌, ◌≤◌, ℕ, List, length, refl, sym, ◌∙◌, arith}
+use Rattle.map.specs.declared.Form.{Form}
+use Rattle.map.specs.FormMap.{number_size, segment_size}
+use Rattle.plain.specs.Ops.{Ops, mark_range}
 use Rattle.plain.proofs.MarkedLaws.{mark-next}
 use Rattle.heap_layout.specs.Ops.{heap_ops}
+use Rattle.heap_bits.proofs.AheadLaws.{ahead_on}
 use Rattle.heap_mark_from.proofs.mark_from.Goals as goal
 
--- two segments are marked, r positions are left
-two : (L : ℕ) (h g : List ℕ) (p q m r : ℕ) → length h ≡ L → q ≡ p + 16 → m ≡ 16 + r → g ≡ mark_range (heap_ops 4 8 (length h)) h p 16
-    → mark_range (heap_ops 4 8 L) h p m ≡ mark_range (heap_ops 4 8 L) g q r
-two L h g p q m r l u w e = rw (e, u, w, l) (mark-next (heap_ops 4 8 L) h p 16 r)
+abbrev ops : Form → ℕ → Ops (List ℕ)
+ops form L = heap_ops (number_size form) (segment_size form) L
+
+-- m positions are marked, the rest is left
+split : (form : Form) (L : ℕ) (h g : List ℕ) (p m q e : ℕ) → length h ≡ L → q ≡ p + m → q ≤ e → g ≡ mark_range (ops form (length h)) h p m
+    → mark_range (ops form L) h p (e - p) ≡ mark_range (ops form L) g q (e - q)
+split form L h g p m q e l u v w = let k : e - p ≡ m + (e - q) = omega arith in rw (k, w, u, l) (mark-next (ops form L) h p m (e - (p + m)))
 
 pub loop-at-init : goal.loop-at-init
-loop-at-init c = (search rules, search rules, refl, refl, refl)
+loop-at-init c = (omega arith, omega arith, c.ahead_of-ahead.ensures, refl, refl)
 
 pub loop-at-preserved : goal.loop-at-preserved
 loop-at-preserved c =
-    let l = c.loop-at in
-    let L = length c.args.heap.now in
-    let x : length c.mark_two.new.heap ≡ L = c.heap-1.given ∙ l.invariant.2 in
-    let y : length c.mark_two-in-loop-at.new.heap ≡ L = c.heap-in-loop-at-1.given ∙ x in (
+    let a = c.args in
+    let L = length a.heap.now in
+    let p = c.loop-at.at in
+    let m = c.mark_two.new.heap in
+    let x : length m ≡ L = c.mark_two.auto.heap ∙ c.loop-at.invariant.3 in (
       omega arith,
       omega arith,
-      y,
-      l.invariant.3,
-      l.invariant.4
-          ∙ two L l.heap _ l.at _ _ (c.args.end.0 - (l.at + 16)) l.invariant.2 refl (omega arith) c.mark_two.ensures
-          ∙ two L c.mark_two.new.heap _ (l.at + 16) _ _ _ x (omega arith) (omega arith) c.mark_two-in-loop-at.ensures,
+      ahead_on a.form p 32 _ _ refl c.loop-at.invariant.2,
+      c.mark_two-in-loop-at.auto.heap ∙ x,
+      c.loop-at.invariant.4
+          ∙ split a.form L c.loop-at.heap m p 16 (p + 16) a.end.0 c.loop-at.invariant.3 refl (omega arith) c.mark_two.ensures
+          ∙ split a.form L m _ (p + 16) 16 (p + 32) a.end.0 x (omega arith) (omega arith) c.mark_two-in-loop-at.ensures,
     )
 
 pub returns-then-at-e : goal.returns-then-at-e
 returns-then-at-e c =
-    let l = c.loop-at in
-    let L = length c.args.heap.now in
-    let x : length c.mark_two-then-at-e.new.heap ≡ L = c.heap-then-at-e-1.given ∙ l.invariant.2 in
-    c.mark_rest.ensures ∙ rw x (sym (l.invariant.4 ∙ two L l.heap _ l.at _ _ _ l.invariant.2 refl (omega arith) c.mark_two-then-at-e.ensures))
+    let a = c.args in
+    let L = length a.heap.now in
+    let p = c.loop-at.at in
+    let m = c.mark_two-then-at-e.new.heap in
+    let x : length m ≡ L = c.mark_two-then-at-e.auto.heap ∙ c.loop-at.invariant.3 in
+    c.mark_rest.ensures
+    ∙ rw x
+    (sym (c.loop-at.invariant.4 ∙ split a.form L c.loop-at.heap m p 16 (p + 16) a.end.0 c.loop-at.invariant.3 refl (omega arith) c.mark_two-then-at-e.ensures))
 
 pub returns : goal.returns
-returns c =
-    let l = c.loop-at in
-    c.mark_rest-2.ensures ∙ rw l.invariant.2 (sym l.invariant.4)
+returns c = c.mark_rest-2.ensures ∙ rw c.loop-at.invariant.3 (sym c.loop-at.invariant.4)

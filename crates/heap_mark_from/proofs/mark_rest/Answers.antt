@@ -1,36 +1,34 @@
--- `heap_mark_from::mark_rest` meets its contract: a segment and part of the next, or part of one, or nothing. Assumes nothing.
-use mathlib.Core.Path.{sym, ◌∙◌}
-use Prim.Native.Nat.{◌+◌, ◌-◌}
-use native.Mathlib.Omega.{arith}
-use lib.ListN.{length, set, length-set}
+-- `heap_mark_from::mark_rest` meets its contract: eight positions and those that are left, or these alone, or none. Assumes nothing.
+use Rattle.std.proofs.Common.{◌+◌, ◌-◌, ◌<◌, length, sym, ◌∙◌, arith}
+use lib.ListN.{length-set}
+use Rattle.map.specs.FormMap.{number_size, segment_size}
 use Rattle.plain.proofs.MarkedLaws.{mark-none}
 use Rattle.heap_layout.specs.Ops.{heap_ops}
-use Rattle.heap_laws.proofs.MarkLaws.{mark-part, mark-first}
-use borrow.Author.Rules.{rules}
+use Rattle.heap_bits.proofs.AheadLaws.{byte_in, mark_part, mark_first}
 use Rattle.heap_mark_from.proofs.mark_rest.Goals as goal
-
-pub bounds-heap-last : goal.bounds-heap-last
-bounds-heap-last c =
-    omega (arith, length-set c.args.heap.now (c.args.start.0 + 4) c.set_bits.new.byte)
 
 pub returns-then-last-e : goal.returns-then-last-e
 returns-then-last-e c =
-    let h = c.args.heap.now in
-    let p = c.args.start.0 in
-    let r = c.args.end.0 - (p + 8) in
-    let g = set h (p + 4) c.set_bits.new.byte in
-    let l = length-set h (p + 4) c.set_bits.new.byte in
+    let a = c.args in
+    let h = a.heap.now in
+    let p = a.start.0 in
+    let r = a.end.0 - (p + 8) in
+    let near = c.requires.start_value.3 in
+    let k : p + a.ahead.own < length h = byte_in a.form p _ (length h) c.requires.heap_len.1 (omega arith) near.0 in
+    let m : p + a.ahead.next < length h = byte_in a.form (p + 8) _ (length h) c.requires.heap_len.1 (omega arith) near.1 in
     sym
-    (mark-first 4 8 (length h) h p 8 (p + 4) 0 (omega arith) (omega arith) (omega arith) (omega arith) (c.args.end.0 - p) r (omega arith) _ (omega arith) c.set_bits.ensures
-    ∙ mark-part 4 8 (length h) g (p + 8) r (p + 8 + 4) 0 (omega arith) (omega arith) (omega arith) (omega arith) _ (omega arith) c.set_bits-then-last-e.ensures)
+    (mark_first a.form (length h) h p 8 _ 0 (omega arith) near.0 (omega arith) (a.end.0 - p) r (omega arith) _ k c.set_bits.ensures
+    ∙ mark_part a.form (length h) _ (p + 8) r _ 0 (omega arith) near.1 (omega arith) _ (rw (length-set h (p + a.ahead.own) c.set_bits.new.byte) m) c.set_bits-then-last-e.ensures)
 
 pub returns-then-at-e : goal.returns-then-at-e
 returns-then-at-e c =
-    let h = c.args.heap.now in
-    let p = c.args.start.0 in
-    sym (mark-part 4 8 (length h) h p (c.args.end.0 - p) (p + 4) 0 (omega arith) (omega arith) (omega arith) (omega arith) _ (omega arith) c.set_bits-then-at-e.ensures)
+    let a = c.args in
+    let h = a.heap.now in
+    let near = c.requires.start_value.3 in
+    let k : a.start.0 + a.ahead.own < length h = byte_in a.form a.start.0 _ (length h) c.requires.heap_len.1 (omega arith) near.0 in
+    sym (mark_part a.form (length h) h a.start.0 (a.end.0 - a.start.0) _ 0 (omega arith) near.0 (omega arith) _ k c.set_bits-then-at-e.ensures)
 
 pub returns-else-at-e : goal.returns-else-at-e
 returns-else-at-e c =
-    let h = c.args.heap.now in
-    sym (mark-none (heap_ops 4 8 (length h)) h c.args.start.0 (c.args.end.0 - c.args.start.0) (omega arith))
+    let a = c.args in
+    sym (mark-none (heap_ops (number_size a.form) (segment_size a.form) (length a.heap.now)) a.heap.now a.start.0 (a.end.0 - a.start.0) (omega arith))

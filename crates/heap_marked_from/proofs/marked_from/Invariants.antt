@@ -1,18 +1,12 @@
 -- `heap_marked_from::marked_from` meets its contract: the whole range is marked exactly if what is left of it is. Assumes nothing.
-use mathlib.Core.Path.{◌≡◌, refl, sym, ap, ◌∙◌}
-use mathlib.Core.Bool.{◌&&◌}
-use Prim.Native.Nat.{◌≤◌, ◌-◌, ◌+◌, ◌%◌}
-use native.Mathlib.Omega.{arith}
-use lib.ListN.{length}
-use borrow.Author.Rules.{rules}
+use Rattle.std.proofs.Common.{◌≡◌, ◌+◌, ◌-◌, ◌*◌, length}
+use Rattle.map.specs.FormMap.{number_size, segment_size}
 use Rattle.plain.specs.Ops.{range_marked}
-use Rattle.plain.proofs.MarkedLaws.{marked_next}
 use Rattle.heap_layout.specs.Ops.{heap_ops}
 use Rattle.heap_marked_from.proofs.marked_from.Given as goal
 
-abbrev pub invariant-loop-at : goal.invariant-loop-at
-invariant-loop-at l =
-    (l.at % 8 ≡ 0) × (l.at ≤ l.e) × (range_marked (heap_ops 4 8 (length l.heap)) l.heap l.initial.at (l.e - l.initial.at) ≡ range_marked (heap_ops 4 8 (length l.heap)) l.heap l.at (l.e - l.at))
-
-abbrev pub decreases-loop-at : goal.decreases-loop-at
-decreases-loop-at l = l.e - l.at
+abbrev pub invariant-loop-i : goal.invariant-loop-i
+invariant-loop-i l =
+    let O = heap_ops (number_size l.form) (segment_size l.form) (length l.heap) in
+    let at = l.s + 32 * l.i in
+    range_marked O l.heap l.s (l.e - l.s) ≡ range_marked O l.heap at (l.e - at)

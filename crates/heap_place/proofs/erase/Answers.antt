@@ -4,7 +4,6 @@ use native.Mathlib.Omega.{arith}
 use Rattle.map.specs.FormMap.{segment_size, wide_of, two_of}
 use Rattle.heap_layout.specs.Ops.{heap_erase}
 use Rattle.heap_laws.proofs.PlaceLaws.{place_in}
-use borrow.Author.Rules.{rules}
 use Rattle.heap_place.proofs.erase.Goals as goal
 
 pub fill_zero_at-requires : goal.fill_zero_at-requires

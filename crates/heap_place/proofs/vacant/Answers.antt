@@ -4,7 +4,6 @@ use native.Mathlib.Omega.{arith}
 use Rattle.map.specs.FormMap.{segment_size, wide_of, two_of}
 use Rattle.heap_layout.specs.Ops.{heap_vacant}
 use Rattle.heap_laws.proofs.PlaceLaws.{place_in}
-use borrow.Author.Rules.{rules}
 use Rattle.heap_place.proofs.vacant.Goals as goal
 
 pub zero_at-requires : goal.zero_at-requires

@@ -1,15 +1,12 @@
 -- `heap_stamp::stamp` meets its contract: after the header, the segments passed are in place. Assumes nothing.
-use mathlib.Core.Path.{◌≡◌, refl, sym, ◌∙◌}
-use Prim.Native.Nat.{◌+◌, ◌-◌, ◌%◌, ◌≤◌}
-use native.Mathlib.Omega.{arith}
-use lib.ListN.{length}
-use borrow.Author.Rules.{rules}
-use Rattle.number.proofs.PartLaws.{over_none}
-use Rattle.heap_laws.proofs.StampLaws.{placed, placed-more, placed-all}
+use Rattle.std.proofs.Common.{◌≡◌, ◌+◌, ◌*◌}
+use Rattle.map.specs.FormMap.{number_size, segment_size}
+use Rattle.heap_laws.proofs.StampLaws.{placed}
 use Rattle.heap_stamp.proofs.stamp.Given as goal
 
-abbrev pub invariant-loop-d : goal.invariant-loop-d
-invariant-loop-d l = (l.d % 8 ≡ 0) × (l.d ≤ l.len) × (length l.heap ≡ length l.initial.heap) × (l.heap ≡ placed 4 8 l.how l.b l.len l.d l.initial.heap)
-
-abbrev pub decreases-loop-d : goal.decreases-loop-d
-decreases-loop-d l = l.len - l.d
+abbrev pub invariant-loop-i : goal.invariant-loop-i
+invariant-loop-i l =
+    record {
+      numbered : l.number ≡ l.i * segment_size l.form + 1;
+      stamped : l.heap ≡ placed (number_size l.form) (segment_size l.form) l.how l.b l.len (l.i * segment_size l.form) l.initial.heap;
+    }

@@ -1,5 +1,5 @@
 -- `map::below` meets its contract: what is one below the start is above every start where that is 0. Assumes nothing.
-use Rattle.std.proofs.Common.{◌≡◌, ℕ, ◌+◌, ◌%◌, ◌<◌, ◌&&◌, ltb, leb, arith, rules, ltb-true, le-ltb, lt-ltb, le-leb, leb-false, leb-true}
+use Rattle.std.proofs.Common.{◌≡◌, ℕ, ◌+◌, ◌%◌, ◌<◌, ◌&&◌, ltb, leb, arith, ltb-true, le-ltb, lt-ltb, le-leb, leb-false, leb-true}
 use Rattle.number.proofs.TestLaws.{Test, is_true, is_false, test, same_test}
 use Rattle.map.proofs.below.Goals as goal
 
@@ -20,6 +20,4 @@ one_below r start size other b o e = go (test (leb 1 start))
         rw (t, le-ltb (r + size) other (omega arith))
 
 pub returns : goal.returns
-returns c =
-    let a = c.before.args in
-    one_below c.wrapping_sub_u32.result a.start a.size a.other (omega arith) (omega arith) c.wrapping_sub_u32.ensures.value
+returns c = one_below _ c.args.start c.args.size c.args.other (omega arith) (omega arith) (omega arith)

@@ -1,6 +1,5 @@
 -- `monitor_ending::ending` meets its contract. Assumes nothing.
 use borrow.Author.Tests.{eq-eqb, ne_eqb}
-use borrow.Author.Rules.{rules}
 use Rattle.monitor_ending.proofs.ending.Goals as goal
 
 pub returns-then-offset-ne0 : goal.returns-then-offset-ne0

@@ -1,104 +1,73 @@
 -- `monitor_initialised::initialised` meets its contract: one arm for each area. Assumes nothing.
-use Rattle.shadows.specs.Shadows.{Shadows, lengths_fit}
-use Rattle.map.specs.Locating.{Lies}
-use Rattle.map.specs.declared.Located.{Located}
-use Rattle.map.specs.declared.Located.TheVariants.{Heap, Stack, Outside}
-use mathlib.Core.Path.{◌≡◌, sym, ◌∙◌}
-use mathlib.Core.Bool.{true}
-use Rattle.map.specs.Map.{good_map}
-use Rattle.monitor_base.proofs.CallLaws.{early-good}
-use Rattle.monitor_read_laws.proofs.AnswerLaws.{answers, refuses}
-use Rattle.plain.specs.Call.{Call, initialised}
-use Rattle.monitor_base.proofs.LocatingLaws.{heap-there, stack-there}
-use Rattle.monitor_read_laws.proofs.RangingLaws.{initialised-none, initialised-heap, initialised-stack, initialised-out}
-use borrow.Author.Rules.{rules}
+use Rattle.std.proofs.Common.{sym}
 use Rattle.map.specs.FormMap.{under}
+use Rattle.plain.specs.Call.{initialised}
+use Rattle.shadows.specs.Shadows.{Shadows, lengths_fit}
+use Rattle.monitor_base.proofs.CallLaws.{early-good}
+use Rattle.monitor_base.proofs.LocatingLaws.{heap-there, stack-there}
+use Rattle.monitor_read_laws.proofs.AnswerLaws.{answers, refuses}
+use Rattle.monitor_read_laws.proofs.RangingLaws.{initialised-none, initialised-heap, initialised-stack, initialised-out}
 use Rattle.monitor_initialised.proofs.initialised.Goals as goal
-use Rattle.monitor_initialised.proofs.initialised.Lts as place
-use Rattle.monitor_initialised.proofs.initialised.Reads as reads
-use Rattle.monitor_initialised.proofs.initialised.Tie as tie
 
--- steps of the code, by name
-abbrev Start : Type 0
-Start = place.Start tie.the-claims reads.Pre reads.Post
-
-abbrev Else1 : Type 0
-Else1 = place.Else1 tie.the-claims reads.Pre reads.Post
-
-abbrev After-locate : Type 0
-After-locate = place.After-locate tie.the-claims reads.Pre reads.Post
-
-abbrev After-p : Type 0
-After-p = place.Past-After-known_told tie.the-claims reads.Pre reads.Post
-
-abbrev After-p2 : Type 0
-After-p2 = place.Past-After-known_told2 tie.the-claims reads.Pre reads.Post
-
-abbrev After-enum_told : Type 0
-After-enum_told = place.Past-After-enum_told tie.the-claims reads.Pre reads.Post
-
-abbrev shadows : Start → Shadows
-shadows c = (c.args.heap.now, (c.args.primary.now, c.args.secondary.now))
-
-abbrev asked : Start → Call
-asked c = initialised c.args.a.0 c.args.n
-
-good : (c : Else1) → (good_map (under c.args.form c.args.map) ≡ true) × (lengths_fit (under c.args.form c.args.map) (shadows c.before.before.before.before.before) ≡ true)
+pub returns-in-Err : goal.returns-in-Err
 unfolding lengths_fit
-good c = early-good (under c.args.form c.args.map) (shadows c.before.before.before.before.before) (sym c.if-k-ne0.false ∙ c.checked-k.ensures)
-
--- the address lies in the heap, in the stack, in neither
-abbrev lies : After-locate → Located → Type 0
-lies c = Lies c.args.map c.args.a.0
-
-in-heap : (c : After-p) → lies c.before (Heap c.in-Heap.p)
-in-heap c = rw c.in-Heap.is at c.locate.ensures
-
-in_stack : (c : After-p2) → lies c.before (Stack c.in-Stack.p)
-in_stack c = rw c.in-Stack.is at c.locate.ensures
-
-outside : (c : After-enum_told) → lies c.before Outside
-outside c = rw c.in-Outside.is at c.locate.ensures
-
-pub returns-then-k-ne0 : goal.returns-then-k-ne0
-unfolding lengths_fit
-returns-then-k-ne0 c =
-    refuses (under c.args.form c.args.map) (asked c.before.before.before.before.before.before.before) (shadows c.before.before.before.before.before.before.before) c.refusal.result _ c.refusal.ensures c.checked-k.ensures c.if-k-ne0.true
+returns-in-Err c =
+    let s : Shadows = (c.args.heap.now, (c.args.primary.now, c.args.secondary.now)) in
+    refuses (under c.args.form c.args.map) (initialised c.args.a.0 c.args.n) s c.refusal.result _ c.refusal.ensures
+    c.in-Err.ensures.0 c.in-Err.ensures.1
 
 pub returns-then-n-eq0 : goal.returns-then-n-eq0
+unfolding lengths_fit
 returns-then-n-eq0 c =
-    let g = good c.before.before.before in
-    answers (under c.args.form c.args.map) (asked c.before.before.before.before.before.before.before.before) (shadows c.before.before.before.before.before.before.before.before) c.refusal-then-n-eq0.result _ c.refusal-then-n-eq0.ensures
-    (initialised-none (under c.args.form c.args.map) (shadows c.before.before.before.before.before.before.before.before) g.0 g.1 c.args.a.0 c.args.n c.if-n-eq0.true)
+    let s : Shadows = (c.args.heap.now, (c.args.primary.now, c.args.secondary.now)) in
+    let m = under c.args.form c.args.map in
+    let g = early-good m s (sym c.in_default.ensures) in
+    let r = c.refusal-then-n-eq0 in
+    answers m (initialised c.args.a.0 c.args.n) s r.result _ r.ensures (initialised-none m s g.0 g.1 c.args.a.0 c.args.n c.if-n-eq0.true)
 
 pub written_heap-requires : goal.written_heap-requires
+unfolding lengths_fit
 written_heap-requires c =
-    let g = good c.before.before.before.before in
-    let h = in-heap c.before in
-    heap-there (under c.args.form c.args.map) (shadows c.before.before.before.before.before.before.before.before.before) g.0 g.1 c.args.a.0 _ h.0 h.1
+    let s : Shadows = (c.args.heap.now, (c.args.primary.now, c.args.secondary.now)) in
+    let m = under c.args.form c.args.map in
+    let g = early-good m s (sym c.in_default.ensures) in
+    let h = rw c.in-Heap.is at c.locate.ensures in
+    heap-there m s g.0 g.1 c.args.a.0 _ h.0 h.1
 
 pub written_stack-requires : goal.written_stack-requires
+unfolding lengths_fit
 written_stack-requires c =
-    let g = good c.before.before.before.before in
-    let h = in_stack c.before in
-    stack-there (under c.args.form c.args.map) (shadows c.before.before.before.before.before.before.before.before.before) g.0 g.1 c.args.a.0 _ h.0 h.1
+    let s : Shadows = (c.args.heap.now, (c.args.primary.now, c.args.secondary.now)) in
+    let m = under c.args.form c.args.map in
+    let g = early-good m s (sym c.in_default.ensures) in
+    let h = rw c.in-Stack.is at c.locate.ensures in
+    stack-there m s g.0 g.1 c.args.a.0 _ h.0 h.1
 
 pub returns-in-Heap : goal.returns-in-Heap
+unfolding lengths_fit
 returns-in-Heap c =
-    let g = good c.before.before.before.before.before in
-    let h = in-heap c.before.before in
-    answers (under c.args.form c.args.map) (asked c.before.before.before.before.before.before.before.before.before.before) (shadows c.before.before.before.before.before.before.before.before.before.before) c.written_heap.result _ c.written_heap.ensures
-    (initialised-heap (under c.args.form c.args.map) (shadows c.before.before.before.before.before.before.before.before.before.before) g.0 g.1 c.args.a.0 c.args.n _ c.if-n-eq0.false h.0 h.1)
+    let s : Shadows = (c.args.heap.now, (c.args.primary.now, c.args.secondary.now)) in
+    let m = under c.args.form c.args.map in
+    let g = early-good m s (sym c.in_default.ensures) in
+    let h = rw c.in-Heap.is at c.locate.ensures in
+    answers m (initialised c.args.a.0 c.args.n) s c.written_heap.result _ c.written_heap.ensures
+    (initialised-heap m s g.0 g.1 c.args.a.0 c.args.n _ c.if-n-eq0.false h.0 h.1)
 
 pub returns-in-Stack : goal.returns-in-Stack
+unfolding lengths_fit
 returns-in-Stack c =
-    let g = good c.before.before.before.before.before in
-    let h = in_stack c.before.before in
-    answers (under c.args.form c.args.map) (asked c.before.before.before.before.before.before.before.before.before.before) (shadows c.before.before.before.before.before.before.before.before.before.before) c.written_stack.result _ c.written_stack.ensures
-    (initialised-stack (under c.args.form c.args.map) (shadows c.before.before.before.before.before.before.before.before.before.before) g.0 g.1 c.args.a.0 c.args.n _ c.if-n-eq0.false h.0 h.1)
+    let s : Shadows = (c.args.heap.now, (c.args.primary.now, c.args.secondary.now)) in
+    let m = under c.args.form c.args.map in
+    let g = early-good m s (sym c.in_default.ensures) in
+    let h = rw c.in-Stack.is at c.locate.ensures in
+    answers m (initialised c.args.a.0 c.args.n) s c.written_stack.result _ c.written_stack.ensures
+    (initialised-stack m s g.0 g.1 c.args.a.0 c.args.n _ c.if-n-eq0.false h.0 h.1)
 
 pub returns-in-Outside : goal.returns-in-Outside
+unfolding lengths_fit
 returns-in-Outside c =
-    let g = good c.before.before.before.before.before in
-    answers (under c.args.form c.args.map) (asked c.before.before.before.before.before.before.before.before.before.before) (shadows c.before.before.before.before.before.before.before.before.before.before) c.yes_no.result _ c.yes_no.ensures
-    (initialised-out (under c.args.form c.args.map) (shadows c.before.before.before.before.before.before.before.before.before.before) g.0 g.1 c.args.a.0 c.args.n c.if-n-eq0.false (outside c.before.before))
+    let s : Shadows = (c.args.heap.now, (c.args.primary.now, c.args.secondary.now)) in
+    let m = under c.args.form c.args.map in
+    let g = early-good m s (sym c.in_default.ensures) in
+    answers m (initialised c.args.a.0 c.args.n) s c.yes_no.result _ c.yes_no.ensures
+    (initialised-out m s g.0 g.1 c.args.a.0 c.args.n c.if-n-eq0.false (rw c.in-Outside.is at c.locate.ensures))

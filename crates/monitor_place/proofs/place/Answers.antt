@@ -1,62 +1,55 @@
 -- `monitor_place::place` meets its contract. Assumes nothing.
-use mathlib.Core.Path.{◌≡◌, sym, ◌∙◌}
-use mathlib.Core.Bool.{true}
-use Rattle.map.specs.Map.{good_map}
-use Rattle.plain.specs.Call.{Call, place}
+use Rattle.std.proofs.Common.{sym}
+use Rattle.plain.specs.Call.{place}
+use Rattle.map.specs.FormMap.{under}
 use Rattle.shadows.specs.Shadows.{Shadows, lengths_fit}
 use Rattle.monitor_base.proofs.CallLaws.{early-good}
 use Rattle.monitor_base.proofs.LocatingLaws.{heap-lengths}
 use Rattle.monitor_read_laws.proofs.AnswerLaws.{answers, refuses}
 use Rattle.monitor_read_laws.proofs.PlacingLaws.{place-empty}
 use Rattle.monitor_place.proofs.RoomLaws.{room_fits, room-answer}
-use borrow.Author.Rules.{rules}
-use Rattle.map.specs.FormMap.{under}
 use Rattle.monitor_place.proofs.place.Goals as goal
-use Rattle.monitor_place.proofs.place.Lts as place
-use Rattle.monitor_place.proofs.place.Reads as reads
-use Rattle.monitor_place.proofs.place.Tie as tie
 
--- steps of the code, by name
-abbrev Start : Type 0
-Start = place.Start tie.the-claims reads.Pre reads.Post tie.handed_clauses
-
-abbrev Else1 : Type 0
-Else1 = place.Else1 tie.the-claims reads.Pre reads.Post tie.handed_clauses
-
-abbrev shadows : Start → Shadows
-shadows c = (c.args.heap.now, (c.args.primary.now, c.args.secondary.now))
-
-abbrev asked : Start → Call
-asked c = place c.args.length c.args.budget
-
-good : (c : Else1) → (good_map (under c.args.form c.args.map) ≡ true) × (lengths_fit (under c.args.form c.args.map) (shadows c.before.before.before.before.before) ≡ true)
+pub returns-in-Err : goal.returns-in-Err
 unfolding lengths_fit
-good c = early-good (under c.args.form c.args.map) (shadows c.before.before.before.before.before) (sym c.if-k-ne0.false ∙ c.checked-k.ensures)
-
-pub returns-then-k-ne0 : goal.returns-then-k-ne0
-unfolding lengths_fit
-returns-then-k-ne0 c =
-    refuses (under c.args.form c.args.map) (asked c.before.before.before.before.before.before.before) (shadows c.before.before.before.before.before.before.before) c.refusal.result _ c.refusal.ensures c.checked-k.ensures c.if-k-ne0.true
+returns-in-Err c =
+    let s : Shadows = (c.args.heap.now, (c.args.primary.now, c.args.secondary.now)) in
+    refuses (under c.args.form c.args.map) (place c.args.length c.args.budget) s c.refusal.result _ c.refusal.ensures
+    c.in-Err.ensures.0 c.in-Err.ensures.1
 
 pub returns-then-length-eq0 : goal.returns-then-length-eq0
+unfolding lengths_fit
 returns-then-length-eq0 c =
-    let g = good c.before.before.before in
-    answers (under c.args.form c.args.map) (asked c.before.before.before.before.before.before.before.before) (shadows c.before.before.before.before.before.before.before.before) c.refusal-then-length-eq0.result _ c.refusal-then-length-eq0.ensures
-    (place-empty (under c.args.form c.args.map) (shadows c.before.before.before.before.before.before.before.before) g.0 g.1 c.args.length c.args.budget c.if-length-eq0.true)
+    let s : Shadows = (c.args.heap.now, (c.args.primary.now, c.args.secondary.now)) in
+    let m = under c.args.form c.args.map in
+    let g = early-good m s (sym c.in_default.ensures) in
+    let r = c.refusal-then-length-eq0 in
+    answers m (place c.args.length c.args.budget) s r.result _ r.ensures (place-empty m s g.0 g.1 c.args.length c.args.budget c.if-length-eq0.true)
 
 pub choose-requires : goal.choose-requires
+unfolding lengths_fit
 choose-requires c =
-    let l = heap-lengths (under c.args.form c.args.map) (shadows c.before.before.before.before.before.before.before) (good c.before.before).0 (good c.before.before).1 in
+    let s : Shadows = (c.args.heap.now, (c.args.primary.now, c.args.secondary.now)) in
+    let m = under c.args.form c.args.map in
+    let g = early-good m s (sym c.in_default.ensures) in
+    let l = heap-lengths m s g.0 g.1 in
     (l.1, l.2)
 
 pub answered-requires : goal.answered-requires
+unfolding lengths_fit
 answered-requires c =
+    let s : Shadows = (c.args.heap.now, (c.args.primary.now, c.args.secondary.now)) in
+    let m = under c.args.form c.args.map in
+    let g = early-good m s (sym c.in_default.ensures) in
     let r = c.choose in
-    room_fits (under c.args.form c.args.map) (shadows c.before.before.before.before.before.before.before.before) (good c.before.before.before).0 (good c.before.before.before).1 c.args.length c.args.budget r.result r.ensures.result_value r.ensures.bytes_in_bounds
+    room_fits m s g.0 g.1 c.args.length c.args.budget r.result r.ensures.result_value r.ensures.bytes_in_bounds
 
 pub returns : goal.returns
+unfolding lengths_fit
 returns c =
-    let g = good c.before.before.before.before in
+    let s : Shadows = (c.args.heap.now, (c.args.primary.now, c.args.secondary.now)) in
+    let m = under c.args.form c.args.map in
+    let g = early-good m s (sym c.in_default.ensures) in
     let r = c.choose in
-    answers (under c.args.form c.args.map) (asked c.before.before.before.before.before.before.before.before.before) (shadows c.before.before.before.before.before.before.before.before.before) c.answered.result _ c.answered.ensures
-    (room-answer (under c.args.form c.args.map) (shadows c.before.before.before.before.before.before.before.before.before) g.0 g.1 c.args.length c.args.budget r.result r.ensures.result_value c.if-length-eq0.false)
+    answers m (place c.args.length c.args.budget) s c.answered.result _ c.answered.ensures
+    (room-answer m s g.0 g.1 c.args.length c.args.budget r.result r.ensures.result_value c.if-length-eq0.false)

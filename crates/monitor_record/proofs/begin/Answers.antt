@@ -1,6 +1,5 @@
--- `monitor_record::begin` meets its contract: the number is the answer. Assumes nothing.
-use borrow.Author.Rules.{rules}
+-- `monitor_record::begin` meets its contract: what was recorded is told. Assumes nothing.
 use Rattle.monitor_record.proofs.begin.Goals as goal
 
 pub returns : goal.returns
-returns c = rw c.refusal.ensures c.numbered.ensures
+returns c = rw c.settled.ensures c.recorded.ensures

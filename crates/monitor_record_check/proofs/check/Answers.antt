@@ -1,119 +1,139 @@
 -- `monitor_record_check::check` meets its contract: one arm for each area. Assumes nothing.
-use mathlib.Core.Path.{◌≡◌, sym, ◌∙◌}
-use mathlib.Core.Bool.{true}
+use mathlib.Core.Path.{◌≡◌, refl, sym, ◌∙◌}
+use mathlib.Core.Bool.{false}
 use native.Mathlib.Omega.{arith}
-use Rattle.map.specs.Map.{good_map}
-use Rattle.plain.specs.Call.{Call, begin}
+use Rattle.std.proofs.lemmas.Result.{err_from_is_err_and}
+use Rattle.map.specs.FormMap.{under}
+use Rattle.map.specs.declared.Located.TheVariants.{Heap, Stack}
+use Rattle.types.specs.declared.Beginning.{Beginning}
+use Rattle.types.specs.declared.Beginning.TheVariants.{Unwritten, Written, Literal}
+use Rattle.plain.specs.Block.{starts_literal}
+use Rattle.plain.specs.Call.{begin}
 use Rattle.shadows.specs.Shadows.{Shadows, lengths_fit}
-use Rattle.map.specs.Locating.{Lies}
-use Rattle.map.specs.declared.Located.{Located}
-use Rattle.map.specs.declared.Located.TheVariants.{Heap, Stack, Outside}
 use Rattle.monitor_base.proofs.CallLaws.{early-good}
 use Rattle.monitor_base.proofs.LocatingLaws.{ends, heap-there, stack-there, heap-end, stack-end}
 use Rattle.monitor_write_laws.proofs.CheckLaws.{number-early}
-use Rattle.monitor_write_laws.proofs.RecordChecks.{no-literal, record-3, record-4, literal-4, record-heap, record-stack, stampable}
-use borrow.Author.Rules.{rules}
-use borrow.Enum.Refused.{opened}
-use Rattle.map.specs.FormMap.{under}
+use Rattle.monitor_write_laws.proofs.RecordChecks.{record-3, record-4, literal-4, record-heap, record-stack, stampable}
 use Rattle.monitor_record_check.proofs.check.Goals as goal
-use Rattle.monitor_record_check.proofs.check.Lts as place
-use Rattle.monitor_record_check.proofs.check.Reads as reads
-use Rattle.monitor_record_check.proofs.check.Tie as tie
 
--- steps of the code, by name
-abbrev Start : Type 0
-Start = place.Start tie.the-claims reads.Pre reads.Post tie.handed_clauses
+no_literal : (how : Beginning) → (how ≡ Literal → ⊥) → starts_literal how ≡ false
+no_literal Unwritten n = refl
+no_literal Written n = refl
+no_literal Literal n = absurd (n refl)
 
-abbrev Else1 : Type 0
-Else1 = place.Else1 tie.the-claims reads.Pre reads.Post tie.handed_clauses
-
-abbrev After-locate : Type 0
-After-locate = place.After-locate tie.the-claims reads.Pre reads.Post tie.handed_clauses
-
-abbrev After-place : Type 0
-After-place = place.Past-After-known_told tie.the-claims reads.Pre reads.Post tie.handed_clauses
-
-abbrev After-place2 : Type 0
-After-place2 = place.Past-After-known_told2 tie.the-claims reads.Pre reads.Post tie.handed_clauses
-
-abbrev After-enum_told2 : Type 0
-After-enum_told2 = place.Past-After-enum_told2 tie.the-claims reads.Pre reads.Post tie.handed_clauses
-
-abbrev shadows : Start → Shadows
-shadows c = (c.args.heap.now, (c.args.primary.now, c.args.secondary.now))
-
-good-fit : (c : Else1) → (good_map (under c.args.form c.args.map) ≡ true) × (lengths_fit (under c.args.form c.args.map) (shadows c.before.before.before.before.before) ≡ true)
+pub returns-in_err-checked : goal.returns-in_err-checked
 unfolding lengths_fit
-good-fit c = early-good (under c.args.form c.args.map) (shadows c.before.before.before.before.before) (sym c.if-k-ne0.false ∙ c.checked-k.ensures)
-
-abbrev asked : Start → Call
-asked c = begin c.args.how c.args.base.0 c.args.len
-
--- the address lies in the heap, in the stack, in neither
-abbrev lies : After-locate → Located → Type 0
-lies c = Lies c.args.map c.args.base.0
-
-in-heap : (c : After-place) → lies c.before (Heap c.in-Heap.p)
-in-heap c = rw c.in-Heap.is at c.locate-place.ensures
-
-in_stack : (c : After-place2) → lies c.before (Stack c.in-Stack.p)
-in_stack c = rw c.in-Stack.is at c.locate-place.ensures
-
-outside : (c : After-enum_told2) → lies c.before Outside
-outside c = rw c.in-Outside.is at c.locate-place.ensures
-
-pub returns-then-k-ne0 : goal.returns-then-k-ne0
-unfolding lengths_fit
-returns-then-k-ne0 c =
-    (number-early (under c.args.form c.args.map) (asked c.before.before.before.before.before.before) (shadows c.before.before.before.before.before.before) _ c.checked-k.ensures c.if-k-ne0.true, λ z. absurd (c.if-k-ne0.true z))
+returns-in_err-checked c =
+    let s : Shadows = (c.args.heap.now, (c.args.primary.now, c.args.secondary.now)) in
+    let e = c.in_err-checked.ensures in
+    let p = err_from_is_err_and c.from_residual.result c.from_residual.ensures.1 in
+    rw (p.1, p.2) ((number-early (under c.args.form c.args.map) (begin c.args.how c.args.base.0 c.args.len) s _ e.0 e.1, e.1), tt)
 
 pub returns-then-len-eq0 : goal.returns-then-len-eq0
+unfolding lengths_fit
 returns-then-len-eq0 c =
-    let g = good-fit c.before.before in
-    (record-3 (under c.args.form c.args.map) (shadows c.before.before.before.before.before.before.before) c.args.base.0 c.args.len c.args.how g.0 g.1 c.if-len-eq0.true, λ z. absurd (omega arith))
+    let s : Shadows = (c.args.heap.now, (c.args.primary.now, c.args.secondary.now)) in
+    let m = under c.args.form c.args.map in
+    let g = early-good m s (sym c.in_ok-checked.ensures) in
+    ((record-3 m s c.args.base.0 c.args.len c.args.how g.0 g.1 c.if-len-eq0.true, λ z. omega arith), tt)
 
 -- a literal in the heap
 pub returns-in-Literal : goal.returns-in-Literal
+unfolding lengths_fit
 returns-in-Literal c =
-    let g = good-fit c.before.before.before.before.before in
-    (literal-4 (under c.args.form c.args.map) (shadows c.before.before.before.before.before.before.before.before.before.before) c.args.base.0 c.args.len c.args.how g.0 g.1 c.if-len-eq0.false c.in-Literal.is (in-heap c.before.before).0, λ z. absurd (omega arith))
+    let s : Shadows = (c.args.heap.now, (c.args.primary.now, c.args.secondary.now)) in
+    let m = under c.args.form c.args.map in
+    let g = early-good m s (sym c.in_ok-checked.ensures) in
+    let h = rw c.in-Heap.is at c.locate-place.ensures in
+    ((literal-4 m s c.args.base.0 c.args.len c.args.how g.0 g.1 c.if-len-eq0.false c.in-Literal.is h.0, λ z. omega arith), tt)
 
 pub end-requires : goal.end-requires
+unfolding lengths_fit
 end-requires c =
-    let g = good-fit c.before.before.before.before.before in
-    ends (under c.args.form c.args.map) (shadows c.before.before.before.before.before.before.before.before.before.before) g.0 g.1
+    let s : Shadows = (c.args.heap.now, (c.args.primary.now, c.args.secondary.now)) in
+    let g = early-good (under c.args.form c.args.map) s (sym c.in_ok-checked.ensures) in
+    ends (under c.args.form c.args.map) s g.0 g.1
 
-pub on_heap-number-requires : goal.on_heap-number-requires
-on_heap-number-requires c =
-    let g = good-fit c.before.before.before.before.before.before in
-    let h = in-heap c.before.before.before in record { le_len = (omega (arith, c.if-len-eq0.false), c.end.ensures ∙ heap-end (under c.args.form c.args.map) (shadows c.before.before.before.before.before.before.before.before.before.before.before) g.0 g.1); base_in_bounds = heap-there (under c.args.form c.args.map) (shadows c.before.before.before.before.before.before.before.before.before.before.before) g.0 g.1 c.args.base.0 _ h.0 h.1 }
+pub on_heap-requires : goal.on_heap-requires
+unfolding lengths_fit
+on_heap-requires c =
+    let s : Shadows = (c.args.heap.now, (c.args.primary.now, c.args.secondary.now)) in
+    let m = under c.args.form c.args.map in
+    let g = early-good m s (sym c.in_ok-checked.ensures) in
+    let h = rw c.in-Heap.is at c.locate-place.ensures in
+    record {
+      le_len = (omega (arith, c.if-len-eq0.false), c.end.ensures ∙ heap-end m s g.0 g.1);
+      base_in_bounds = heap-there m s g.0 g.1 c.args.base.0 _ h.0 h.1;
+    }
+
+pub returns-in_err-on_heap-in-Heap : goal.returns-in_err-on_heap-in-Heap
+unfolding lengths_fit
+returns-in_err-on_heap-in-Heap c =
+    let s : Shadows = (c.args.heap.now, (c.args.primary.now, c.args.secondary.now)) in
+    let m = under c.args.form c.args.map in
+    let g = early-good m s (sym c.in_ok-checked.ensures) in
+    let h = rw c.in-Heap.is at c.locate-place.ensures in
+    let o = no_literal c.args.how c.in_default.not-Literal in
+    let e = c.in_err-on_heap-in-Heap.ensures in
+    let p = err_from_is_err_and c.from_residual-in_err-on_heap-in-Heap.result c.from_residual-in_err-on_heap-in-Heap.ensures.1 in
+    rw (p.1, p.2) ((e.0 ∙ record-heap m s c.args.base.0 c.args.len c.args.how g.0 g.1 _ o h.0 h.1, e.1), tt)
+
+pub returns-in_ok-on_heap-in-Heap : goal.returns-in_ok-on_heap-in-Heap
+unfolding lengths_fit
+returns-in_ok-on_heap-in-Heap c =
+    let s : Shadows = (c.args.heap.now, (c.args.primary.now, c.args.secondary.now)) in
+    let m = under c.args.form c.args.map in
+    let g = early-good m s (sym c.in_ok-checked.ensures) in
+    let h = rw c.in-Heap.is at c.locate-place.ensures in
+    let o = no_literal c.args.how c.in_default.not-Literal in
+    let n = sym (record-heap m s c.args.base.0 c.args.len c.args.how g.0 g.1 _ o h.0 h.1) ∙ c.in_ok-on_heap-in-Heap.ensures in
+    (n, (h, stampable m s c.args.base.0 c.args.len c.args.how n (Heap _) h))
 
 pub end-requires-in-Stack : goal.end-requires-in-Stack
+unfolding lengths_fit
 end-requires-in-Stack c =
-    let g = good-fit c.before.before.before.before in
-    ends (under c.args.form c.args.map) (shadows c.before.before.before.before.before.before.before.before.before) g.0 g.1
+    let s : Shadows = (c.args.heap.now, (c.args.primary.now, c.args.secondary.now)) in
+    let g = early-good (under c.args.form c.args.map) s (sym c.in_ok-checked.ensures) in
+    ends (under c.args.form c.args.map) s g.0 g.1
 
-pub on_stack-number-requires : goal.on_stack-number-requires
-on_stack-number-requires c =
-    let g = good-fit c.before.before.before.before.before in
-    let h = in_stack c.before.before in record { le_len = (omega (arith, c.if-len-eq0.false), c.end-in-Stack.ensures ∙ stack-end (under c.args.form c.args.map) (shadows c.before.before.before.before.before.before.before.before.before.before) g.0 g.1); base_in_bounds = stack-there (under c.args.form c.args.map) (shadows c.before.before.before.before.before.before.before.before.before.before) g.0 g.1 c.args.base.0 _ h.0 h.1 }
+pub on_stack-requires : goal.on_stack-requires
+unfolding lengths_fit
+on_stack-requires c =
+    let s : Shadows = (c.args.heap.now, (c.args.primary.now, c.args.secondary.now)) in
+    let m = under c.args.form c.args.map in
+    let g = early-good m s (sym c.in_ok-checked.ensures) in
+    let h = rw c.in-Stack.is at c.locate-place.ensures in
+    record {
+      le_len = (omega (arith, c.if-len-eq0.false), c.end-in-Stack.ensures ∙ stack-end m s g.0 g.1);
+      base_in_bounds = stack-there m s g.0 g.1 c.args.base.0 _ h.0 h.1;
+    }
 
-pub returns-in_default : goal.returns-in_default
-returns-in_default c =
-    let g = good-fit c.before.before.before.before.before.before.before in
-    let h = in-heap c.before.before.before.before in
-    let o = no-literal c.args.how (opened c.in_default.in_default-own.keys2) in
-    let n = c.on_heap-number.ensures ∙ record-heap (under c.args.form c.args.map) (shadows c.before.before.before.before.before.before.before.before.before.before.before.before) c.args.base.0 c.args.len c.args.how g.0 g.1 _ o h.0 h.1 in
-    (n, λ z. (h, stampable (under c.args.form c.args.map) (shadows c.before.before.before.before.before.before.before.before.before.before.before.before) c.args.base.0 c.args.len c.args.how (sym n ∙ z) (Heap _) h))
+pub returns-in_err-on_stack-in-Stack : goal.returns-in_err-on_stack-in-Stack
+unfolding lengths_fit
+returns-in_err-on_stack-in-Stack c =
+    let s : Shadows = (c.args.heap.now, (c.args.primary.now, c.args.secondary.now)) in
+    let m = under c.args.form c.args.map in
+    let g = early-good m s (sym c.in_ok-checked.ensures) in
+    let h = rw c.in-Stack.is at c.locate-place.ensures in
+    let e = c.in_err-on_stack-in-Stack.ensures in
+    let p = err_from_is_err_and c.from_residual-in_err-on_stack-in-Stack.result c.from_residual-in_err-on_stack-in-Stack.ensures.1 in
+    rw (p.1, p.2) ((e.0 ∙ record-stack m s c.args.base.0 c.args.len c.args.how g.0 g.1 _ h.0 h.1, e.1), tt)
 
-pub returns-in-Stack : goal.returns-in-Stack
-returns-in-Stack c =
-    let g = good-fit c.before.before.before.before.before.before in
-    let h = in_stack c.before.before.before in
-    let n = c.on_stack-number.ensures ∙ record-stack (under c.args.form c.args.map) (shadows c.before.before.before.before.before.before.before.before.before.before.before) c.args.base.0 c.args.len c.args.how g.0 g.1 _ h.0 h.1 in
-    (n, λ z. (h, stampable (under c.args.form c.args.map) (shadows c.before.before.before.before.before.before.before.before.before.before.before) c.args.base.0 c.args.len c.args.how (sym n ∙ z) (Stack _) h))
+pub returns-in_ok-on_stack-in-Stack : goal.returns-in_ok-on_stack-in-Stack
+unfolding lengths_fit
+returns-in_ok-on_stack-in-Stack c =
+    let s : Shadows = (c.args.heap.now, (c.args.primary.now, c.args.secondary.now)) in
+    let m = under c.args.form c.args.map in
+    let g = early-good m s (sym c.in_ok-checked.ensures) in
+    let h = rw c.in-Stack.is at c.locate-place.ensures in
+    let n = sym (record-stack m s c.args.base.0 c.args.len c.args.how g.0 g.1 _ h.0 h.1) ∙ c.in_ok-on_stack-in-Stack.ensures in
+    (n, (h, stampable m s c.args.base.0 c.args.len c.args.how n (Stack _) h))
 
 pub returns-in-Outside : goal.returns-in-Outside
+unfolding lengths_fit
 returns-in-Outside c =
-    let g = good-fit c.before.before.before.before in
-    (record-4 (under c.args.form c.args.map) (shadows c.before.before.before.before.before.before.before.before.before) c.args.base.0 c.args.len c.args.how g.0 g.1 c.if-len-eq0.false (outside c.before), λ z. absurd (omega arith))
+    let s : Shadows = (c.args.heap.now, (c.args.primary.now, c.args.secondary.now)) in
+    let m = under c.args.form c.args.map in
+    let g = early-good m s (sym c.in_ok-checked.ensures) in
+    let h = rw c.in-Outside.is at c.locate-place.ensures in
+    ((record-4 m s c.args.base.0 c.args.len c.args.how g.0 g.1 c.if-len-eq0.false h, λ z. omega arith), tt)

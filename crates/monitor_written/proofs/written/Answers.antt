@@ -1,25 +1,21 @@
 -- `monitor_written::written` meets its contract: the check, then the effect. Assumes nothing.
-use Rattle.shadows.specs.Shadows.{Shadows}
-use Rattle.monitor_write_laws.proofs.WrittenChecks.{written-call}
-use borrow.Author.Rules.{rules}
+use Rattle.std.proofs.Common.{sym, refl}
 use Rattle.map.specs.FormMap.{under}
+use Rattle.plain.specs.Call.{written}
+use Rattle.shadows.specs.Shadows.{Shadows}
+use Rattle.monitor_write_laws.proofs.CheckLaws.{call-refused}
+use Rattle.monitor_write_laws.proofs.WrittenChecks.{written-call}
 use Rattle.monitor_written.proofs.written.Goals as goal
-use Rattle.monitor_written.proofs.written.Lts as place
-use Rattle.monitor_written.proofs.written.Reads as reads
-use Rattle.monitor_written.proofs.written.Tie as tie
 
--- steps of the code, by name
-abbrev Start : Type 0
-Start = place.Start tie.the-claims reads.Pre reads.Post
+pub returns-in-Ok : goal.returns-in-Ok
+returns-in-Ok c =
+    let s : Shadows = (c.args.heap.now, (c.args.primary.now, c.args.secondary.now)) in
+    let f = c.in-Ok.ensures in
+    rw c.accepted.ensures
+    (written-call (under c.args.form c.args.map) s c.args.a.0 c.args.n 0 (sym f.0) c.in-Ok.place (λ z. f.1) (λ z. absurd (z refl)) _ (c.mark.ensures c.args.secondary.now))
 
-abbrev shadows : Start → Shadows
-shadows c = (c.args.heap.now, (c.args.primary.now, c.args.secondary.now))
-
-pub mark-requires : goal.mark-requires
-mark-requires c = c.check-number.ensures.3
-
-pub returns : goal.returns
-returns c =
-    let f = c.check-number.ensures in
-    rw c.refusal.ensures
-    (written-call (under c.args.form c.args.map) (shadows c.before.before.before.before.before.before.before.before.before.before.before.before.before) c.args.a.0 c.args.n _ f.0 c.check-number.result.place f.1 f.2 _ (c.mark.ensures c.args.secondary.now))
+pub returns-in-Err : goal.returns-in-Err
+returns-in-Err c =
+    let s : Shadows = (c.args.heap.now, (c.args.primary.now, c.args.secondary.now)) in
+    let f = c.in-Err.ensures in
+    rw c.refusal.ensures (sym (call-refused (under c.args.form c.args.map) (written c.args.a.0 c.args.n) s refl _ f.0 f.1))

@@ -1,7 +1,6 @@
 use Prim.Native.Nat.{◌/◌, ◌^◌}
 use lib.Bits.{and_mask}
 use Rattle.number.specs.Bits.{bit_of}
-use borrow.Author.Rules.{rules}
 use Rattle.number_bits.proofs.bit.Goals as goal
 
 pub returns : goal.returns

@@ -1,6 +1,5 @@
 -- `number_bits::low` meets its contract. Assumes nothing.
 use Rattle.number.proofs.WordLaws.{and_low}
-use borrow.Author.Rules.{rules}
 use Rattle.number_bits.proofs.low.Goals as goal
 
 pub returns : goal.returns

@@ -1,7 +1,6 @@
 -- `number_bits::low_bits` meets its contract. Assumes nothing.
 use native.Mathlib.Omega.{arith}
 use lib.Pow.{pow_pos}
-use borrow.Author.Rules.{rules}
 use Rattle.number.proofs.BitLaws.{one_shifted}
 use Rattle.number_bits.proofs.low_bits.Goals as goal
 

@@ -4,7 +4,6 @@ use Prim.Native.Nat.{ℕ, ◌+◌, ◌-◌, ◌%◌, ◌≤◌}
 use native.Mathlib.Omega.{arith}
 use lib.Bits.{bit_and}
 use lib.Dec.{lit<}
-use borrow.Author.Rules.{rules}
 use Rattle.number.specs.Little.{byte_of, word}
 use Rattle.number.specs.Parts.{odd_bytes}
 use Rattle.number.proofs.LittleLaws.{byte_of-lt}

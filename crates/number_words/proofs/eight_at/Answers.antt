@@ -2,7 +2,6 @@
 use mathlib.Core.Path.{◌∙◌}
 use native.Mathlib.Nat.{add-sub_cancel_left}
 use Rattle.number.proofs.LittleLaws.{le-word}
-use borrow.Author.Rules.{rules}
 use Rattle.number_words.proofs.eight_at.Goals as goal
 
 pub returns : goal.returns

@@ -6,7 +6,6 @@ use lib.ListN.{length}
 use Rattle.number.specs.Little.{byte_of}
 use Rattle.number.proofs.LittleLaws.{length-bytes_of, at-bytes_of}
 use Rattle.number.proofs.PartLaws.{over-part}
-use borrow.Author.Rules.{rules}
 use Rattle.number_words.proofs.put_at.Goals as goal
 
 pub returns : goal.returns

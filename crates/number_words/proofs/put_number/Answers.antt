@@ -1,8 +1,9 @@
+-- `number_words::put_number` meets its contract. Assumes nothing.
+use Rattle.std.proofs.Common.{◌∙◌}
+use native.Mathlib.Nat.{div-div-eq-div-mul}
 use Rattle.number.specs.Little.{bytes_of}
-use Rattle.number.proofs.LittleLaws.{set4}
-use borrow.Author.Rules.{rules}
 use Rattle.number_words.proofs.put_number.Goals as goal
 
 pub returns : goal.returns
 unfolding bytes_of
-returns c = set4 c.args.bytes.now _ _ _ _ c.requires
+returns c = c.copy_from_slice.ensures.after ∙ c.to_le_bytes.ensures ∙ simp div-div-eq-div-mul

@@ -1,5 +1,4 @@
 -- `origins_pointer::holds_pointer` meets its contract. Assumes nothing.
-use borrow.Author.Rules.{rules}
 use Rattle.origins_pointer.proofs.holds_pointer.Goals as goal
 
 pub returns : goal.returns

@@ -1,10 +1,9 @@
 -- `origins_record::begin` meets its contract. Assumes nothing.
 use Rattle.origins_write_laws.proofs.RecordLaws.{record-told}
-use borrow.Author.Rules.{rules}
 use Rattle.origins_record.proofs.begin.Goals as goal
 
 pub counted-requires : goal.counted-requires
-counted-requires c = c.begin-number.ensures.1
+counted-requires c = c.begin-begun.ensures.1
 
 pub returns : goal.returns
-returns c = record-told _ _ _ _ _ _ _ c.counted.ensures c.begin-number.ensures.0
+returns c = record-told _ _ _ _ _ _ _ c.counted.ensures c.begin-begun.ensures.0

@@ -1,10 +1,7 @@
 -- `samples_bytes::store_all` meets its contract. Assumes nothing.
-use mathlib.Core.Path.{◌≡◌, refl, sym, ◌∙◌}
-use Prim.Native.Nat.{suc, ◌+◌, ◌-◌, ◌≤◌}
-use native.Mathlib.Omega.{arith}
+use mathlib.Core.Path.{◌≡◌}
+use Prim.Native.Nat.{◌-◌, ◌≤◌}
 use Rattle.samples_bytes.specs.Given.{store_all}
-use Rattle.samples_bytes.proofs.GivenLaws.{all_end, all-call, all-close, all-other, all-next}
-use borrow.Author.Rules.{rules}
 use Rattle.samples_bytes.proofs.store_all.Given as goal
 
 abbrev pub invariant-loop : goal.invariant-loop

@@ -1,16 +1,11 @@
 -- `samples_bytes::store_named` meets its contract. Assumes nothing.
-use mathlib.Core.Path.{sym}
-use Rattle.samples_bytes.proofs.GivenLaws.{named_other, named_none, named-bytes}
-use borrow.Author.Rules.{rules}
+use mathlib.Core.Path.{sym, ◌∙◌}
+use Rattle.samples_bytes.proofs.GivenLaws.{named_other, named-bytes}
 use Rattle.samples_bytes.proofs.store_named.Goals as goal
 
-pub returns-then-place-at : goal.returns-then-place-at
-returns-then-place-at c = sym (named_other _ _ _ _ _ c.after_word-place.ensures c.if-place-at.true)
-
-pub returns-in_default : goal.returns-in_default
-returns-in_default c =
-    sym (named_none _ _ _ _ _ c.after_word-place.ensures c.if-place-at.false _ _ c.store_at.ensures c.in_default.is)
+pub returns-in_err-place : goal.returns-in_err-place
+returns-in_err-place c =
+    rw c.from_residual.ensures (sym (named_other _ _ _ _ (sym c.after_word.ensures ∙ c.in_err-place.was)))
 
 pub returns : goal.returns
-returns c =
-    sym (named-bytes _ _ _ _ _ c.after_word-place.ensures c.if-place-at.false _ _ c.store_at.ensures _ c.in-At.is)
+returns c = c.store_at.ensures ∙ sym (named-bytes _ _ _ _ _ (sym c.after_word.ensures ∙ c.in_ok-place.was))

@@ -1,11 +1,8 @@
 -- `samples_state::give` meets its contract. Assumes nothing.
-use mathlib.Core.Path.{◌≡◌, refl, sym, ◌∙◌}
-use Prim.Native.Nat.{suc, ◌+◌, ◌-◌, ◌≤◌}
-use native.Mathlib.Omega.{arith}
+use mathlib.Core.Path.{◌≡◌}
+use Prim.Native.Nat.{◌-◌, ◌≤◌}
 use Rattle.samples_state.specs.Figures.{Fit}
 use Rattle.samples_state.specs.State.{five, state, first, give_all}
-use Rattle.samples_state.proofs.StateLaws.{all_end, all-call, all-close, all-other, all-next}
-use borrow.Author.Rules.{rules}
 use Rattle.samples_state.proofs.give.Given as goal
 
 abbrev pub invariant-loop : goal.invariant-loop

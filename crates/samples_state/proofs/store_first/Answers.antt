@@ -1,7 +1,6 @@
 -- `samples_state::store_first` meets its contract. Assumes nothing.
 use native.Mathlib.Nat.{sub-zero}
 use Rattle.samples_state.proofs.StateLaws.{first_of}
-use borrow.Author.Rules.{rules}
 use Rattle.samples_state.proofs.store_first.Goals as goal
 
 pub returns : goal.returns

@@ -1,7 +1,6 @@
 -- `samples_text::at_end` meets its contract. Assumes nothing.
 use mathlib.Core.Path.{ap}
 use lib.Dec.{leb}
-use borrow.Author.Rules.{rules}
 use Rattle.samples_text.proofs.at_end.Goals as goal
 
 pub returns : goal.returns

@@ -1,25 +1,34 @@
 -- `samples_text::long_at` meets its contract. Assumes nothing.
 use mathlib.Core.Path.{sym, ◌∙◌}
-use Prim.Native.Nat.{◌-◌}
-use lib.ListN.{length}
-use Rattle.samples_text.proofs.TextLaws.{Counted, counted_start, counted_next, long-past, long-other, long-large}
-use borrow.Author.Rules.{rules}
+use native.Mathlib.Omega.{arith}
+use Rattle.samples_text.proofs.TextLaws.{counted_start, counted_next, long-past, long-other, long-large}
 use Rattle.samples_text.proofs.long_at.Goals as goal
 
-pub loop-i-init : goal.loop-i-init
-loop-i-init c = counted_start _ _
+pub loop-n-init : goal.loop-n-init
+loop-n-init c = counted_start _
 
-pub returns-then-d-gt9 : goal.returns-then-d-gt9
-returns-then-d-gt9 c =
-    c.taken.ensures ∙ sym (long-other c.loop-i.invariant _ c.digit-d.ensures (search rules) c.if-d-gt9.true)
+pub returns-in_default : goal.returns-in_default
+returns-in_default c =
+    c.taken.ensures ∙ long-other c.loop-n.invariant _ _ c.rest-text.ensures (sym c.in_default.is ∙ c.digit.ensures) c.loop-n-test.true
 
-pub returns-then-d-value : goal.returns-then-d-value
-returns-then-d-value c =
-    sym (long-large c.loop-i.invariant _ c.digit-d.ensures (search rules) c.if-d-gt9.false c.if-d-value.true)
+pub returns-in_err-checked_mul : goal.returns-in_err-checked_mul
+returns-in_err-checked_mul c =
+    let d = sym c.in-Some.is ∙ c.digit.ensures in
+    c.from_residual.ensures
+    ∙ long-large c.loop-n.invariant _ _ c.rest-text.ensures _ d c.loop-n-test.true (omega (arith, c.in_err-checked_mul.ensures))
 
-pub loop-i-preserved : goal.loop-i-preserved
-loop-i-preserved c =
-    counted_next c.loop-i.invariant _ c.digit-d.ensures (search rules) c.if-d-gt9.false c.if-d-value.false
+pub returns-in_err-value : goal.returns-in_err-value
+returns-in_err-value c =
+    let d = sym c.in-Some.is ∙ c.digit.ensures in
+    c.from_residual-in_err-value.ensures
+    ∙ long-large c.loop-n.invariant _ _ c.rest-text.ensures _ d c.loop-n-test.true
+    (omega (arith, c.in_err-value.ensures, c.in_ok-checked_mul.ensures))
+
+pub loop-n-preserved : goal.loop-n-preserved
+loop-n-preserved c =
+    let d = sym c.in-Some.is ∙ c.digit.ensures in
+    counted_next c.loop-n.invariant _ d c.loop-n-test.true _ (omega (arith, c.in_ok-value.ensures, c.in_ok-checked_mul.ensures))
+    (omega (arith, c.in_ok-value.ensures))
 
 pub returns : goal.returns
-returns c = c.taken-2.ensures ∙ sym (long-past c.loop-i.invariant (search rules))
+returns c = c.taken-2.ensures ∙ long-past c.loop-n.invariant _ _ c.rest-text.ensures (omega arith)

@@ -1,21 +1,13 @@
 -- `samples_text::skip` meets its contract. Assumes nothing.
-use mathlib.Core.Path.{◌≡◌, refl, sym, ◌∙◌}
-use Prim.Native.Nat.{◌-◌}
-use lib.ListN.{length}
-use Rattle.samples_text.specs.Text.{skip_from}
-use Rattle.samples_text.proofs.TextLaws.{skip-end, skip_stop, skip-on}
-use borrow.Author.Rules.{rules}
+use Rattle.std.proofs.Common.{rules}
+use Rattle.std.proofs.lemmas.Iterator.{IsFirst-from_position, YieldsList-from_slice}
+use borrow.Author.Tests.{tests}
+use Rattle.samples_text.proofs.TextLaws.{Other, Gap, skipped}
 use Rattle.samples_text.proofs.skip.Goals as goal
 
-pub loop-i-init : goal.loop-i-init
-loop-i-init c = refl
-
-pub returns-then-byte-other : goal.returns-then-byte-other
-returns-then-byte-other c =
-    let l = c.loop-i in sym (l.invariant ∙ skip_stop _ _ l.i (search rules) c.if-byte-other.true)
-
-pub loop-i-preserved : goal.loop-i-preserved
-loop-i-preserved c = let l = c.loop-i in l.invariant ∙ skip-on _ _ l.i (search rules) c.if-byte-other.false
-
 pub returns : goal.returns
-returns c = let l = c.loop-i in sym (l.invariant ∙ skip-end _ _ l.i (search rules))
+returns c =
+    let text = c.rest-text.result.now in
+    let found = IsFirst-from_position _ _ c.position-other_byte.result (Other c.args.other) (Gap c.args.other)
+    c.position-other_byte.ensures.ran (YieldsList-from_slice text cc) (λ x q k. search (rules, tests)) (λ x q k. search (rules, tests)) in
+    skipped _ _ _ _ _ _ c.rest-text.ensures found c.unwrap_or.ensures

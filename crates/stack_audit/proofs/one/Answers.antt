@@ -1,8 +1,6 @@
 -- `stack_audit::one` meets its contract. Assumes nothing.
 use native.Mathlib.Omega.{arith}
 use lib.Bits.{bit_and, and_mask, mask_lt}
-use borrow.Author.Rules.{rules}
-use borrow.Author.Tests.{not-true, not-false}
 use Rattle.number.specs.Parts.{at}
 use Rattle.stack_audit_laws.proofs.TurnLaws.{in_block, turned-bad, turned-one}
 use Rattle.stack_audit.proofs.one.Goals as goal
@@ -13,7 +11,8 @@ stands-requires c =
 
 pub returns-then-not-stands : goal.returns-then-not-stands
 returns-then-not-stands c =
-    turned-bad c.args.primary.now c.args.secondary.now c.args.q.0 c.args.w c.requires.0 c.args.k c.args.literal c.requires.1 c.requires.2 _ c.stands.ensures (not-true _ c.if-not-stands.true-raw)
+    turned-bad c.args.primary.now c.args.secondary.now c.args.q.0 c.args.w c.requires.0 c.args.k c.args.literal c.requires.1 c.requires.2 _
+    c.stands.ensures c.if-not-stands.true
 
 pub after-requires : goal.after-requires
 after-requires c = (
@@ -27,5 +26,6 @@ after-requires c = (
 pub returns : goal.returns
 returns c =
     let x = at c.args.primary.now c.args.q.0 in
-    turned-one c.args.primary.now c.args.secondary.now c.args.q.0 c.args.w c.requires.0 c.args.k c.args.literal c.requires.1 c.requires.2 _ c.stands.ensures (not-false _ c.if-not-stands.false-raw)
+    turned-one c.args.primary.now c.args.secondary.now c.args.q.0 c.args.w c.requires.0 c.args.k c.args.literal c.requires.1 c.requires.2 _
+    c.stands.ensures c.if-not-stands.false
     (bit_and x 1) c.after.result (and_mask x 1) c.after.ensures

@@ -21,24 +21,29 @@ returns-then-at-end c =
     turned_clear a.primary.now a.secondary.now a.q.0 a.w c.requires k.result c.literal_at-literal.result k.ensures c.literal_at-literal.ensures
     _ c.if-k-eq0.true c.clear_to-end.ensures c.if-at-end.true
 
-pub ahead-r-requires : goal.ahead-r-requires
-ahead-r-requires c =
+pub ahead-n-requires : goal.ahead-n-requires
+ahead-n-requires c =
     let a = c.args in
     let k = c.current-k in (
       record { within = omega arith; same = c.requires.same; small = c.requires.small },
-      omega (arith, in_block a.primary.now a.secondary.now a.q.0 a.w c.requires k.result c.literal_at-literal.result k.ensures c.literal_at-literal.ensures, c.if-k-eq0.false),
+      omega (
+        arith,
+        in_block a.primary.now a.secondary.now a.q.0 a.w c.requires k.result c.literal_at-literal.result k.ensures
+            c.literal_at-literal.ensures,
+        c.if-k-eq0.false,
+      ),
     )
 
 -- the bytes that are passed are those of the block
 own : (c : Then3)
     →
     let a = c.args in
-    Passed a.primary.now a.secondary.now a.q.0 c.current-k.result a.w.i c.literal_at-literal.result c.ahead-r.result.n c.ahead-r.result.written
+    Passed a.primary.now a.secondary.now a.q.0 c.current-k.result a.w.i c.literal_at-literal.result c.ahead-n.result.n c.ahead-n.result.written
 own c =
     let a = c.args in
     let k = c.current-k in
     run-passed a.primary.now a.secondary.now a.q.0 a.w c.requires k.result c.literal_at-literal.result k.ensures c.literal_at-literal.ensures
-    c.ahead-r.result c.if-k-eq0.false c.ahead-r.ensures
+    c.ahead-n.result c.if-k-eq0.false c.ahead-n.ensures
 
 pub overflow_cast-n : goal.overflow_cast-n
 overflow_cast-n c = let p = own c.before in search (rules, p.inside)
@@ -46,12 +51,13 @@ overflow_cast-n c = let p = own c.before in search (rules, p.inside)
 pub past-requires : goal.past-requires
 past-requires c =
     let p = own c.before in
-    let m = odds-le (at c.args.primary.now) c.args.q.0 c.ahead-r.result.n in
+    let m = odds-le (at c.args.primary.now) c.args.q.0 c.ahead-n.result.n in
     (p.block, omega arith, omega (arith, p.inside), omega (arith, p.inside, p.marks))
 
 pub returns-then-n-ne0 : goal.returns-then-n-ne0
 returns-then-n-ne0 c =
     let a = c.args in
     let k = c.current-k in
-    turned-run a.primary.now a.secondary.now a.q.0 a.w c.requires k.result c.literal_at-literal.result k.ensures c.literal_at-literal.ensures _ _ c.past.result (own c.before.before)
+    turned-run a.primary.now a.secondary.now a.q.0 a.w c.requires k.result c.literal_at-literal.result k.ensures c.literal_at-literal.ensures _ _
+    c.past.result (own c.before.before)
     (omega (arith, c.if-n-ne0.true)) c.past.ensures

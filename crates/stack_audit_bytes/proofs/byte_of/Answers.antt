@@ -1,5 +1,4 @@
 -- `stack_audit_bytes::byte_of` meets its contract. Assumes nothing.
-use borrow.Author.Rules.{rules}
 use Rattle.number.proofs.LittleLaws.{byte_of-shift}
 use Rattle.stack_audit_bytes.proofs.byte_of.Goals as goal
 

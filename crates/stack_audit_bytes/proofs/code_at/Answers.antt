@@ -1,7 +1,6 @@
 -- `stack_audit_bytes::code_at` meets its contract. Assumes nothing.
 use native.Mathlib.Omega.{arith}
 use borrow.Author.Tests.{le-leb, lt-leb}
-use borrow.Author.Rules.{rules}
 use Rattle.stack_layout.specs.Code.{short_code, code_of}
 use Rattle.stack_audit_bytes.proofs.code_at.Goals as goal
 

@@ -3,12 +3,12 @@ use mathlib.Core.Path.{◌∙◌}
 use Prim.Native.Nat.{◌-◌}
 use native.Mathlib.Omega.{arith}
 use lib.Dec.{leb, ltb}
-use borrow.Author.Rules.{rules}
 use borrow.Author.Tests.{eq-eqb, ne_eqb, lt-ltb, le-ltb, le-leb, lt-leb, ltb-true}
 use Rattle.number.specs.Parts.{odd_bytes}
 use Rattle.number.proofs.TestLaws.{and-true}
 use Rattle.stack_audit_laws.specs.Runs.{run_at, has_piece, ahead_run}
 use Rattle.stack_audit_runs.proofs.ahead.Goals as goal
+use Rattle.stack_audit_runs.proofs.ahead.Goals.{else-len-gt1-via-then-len-gt1+else-q-primary, else-len-gt1-via-else-len-gt1}
 
 pub pieces-requires : goal.pieces-requires
 pieces-requires c =
@@ -30,13 +30,14 @@ returns-then-q-primary c =
     c.ending.ensures
     ∙ rw (eq-eqb _ _ c.if-i-eq0.true, c.if-len-i.false, lt-ltb _ _ c.if-len-gt1.true, le-leb _ _ c.if-q-primary.true)
 
-pub returns-else-q-primary : goal.returns-else-q-primary
-unfolding run_at ahead_run has_piece odd_bytes
-returns-else-q-primary c = rw (eq-eqb _ _ c.if-i-eq0.true, c.if-len-i.false, lt-ltb _ _ c.if-len-gt1.true, lt-leb _ _ c.if-q-primary.false)
-
 pub returns-else-len-gt1 : goal.returns-else-len-gt1
 unfolding run_at ahead_run has_piece odd_bytes
-returns-else-len-gt1 c = rw (eq-eqb _ _ c.if-i-eq0.true, c.if-len-i.false, le-ltb _ _ c.if-len-gt1.false)
+returns-else-len-gt1 c =
+    rw (eq-eqb _ _ c.if-i-eq0.true, c.if-len-i.false)
+    (elim c.else-len-gt1.branch [
+      | else-len-gt1-via-then-len-gt1+else-q-primary w ↦ rw (lt-ltb _ _ w.if-len-gt1.true, lt-leb _ _ w.if-q-primary.false)
+      | else-len-gt1-via-else-len-gt1 w ↦ rw (le-ltb _ _ w.if-len-gt1.false)
+    ])
 
 pub returns-else-i-eq0 : goal.returns-else-i-eq0
 unfolding run_at ahead_run odd_bytes

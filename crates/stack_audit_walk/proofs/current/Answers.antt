@@ -1,6 +1,5 @@
 -- `stack_audit_walk::current` meets its contract. Assumes nothing.
 use borrow.Author.Tests.{eq-eqb, ne_eqb, le-leb, lt-leb}
-use borrow.Author.Rules.{rules}
 use Rattle.stack_audit_laws.specs.Turn.{current}
 use Rattle.stack_audit_walk.proofs.current.Goals as goal
 

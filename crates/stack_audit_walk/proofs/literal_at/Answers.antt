@@ -1,6 +1,5 @@
 -- `stack_audit_walk::literal_at` meets its contract. Assumes nothing.
 use Prim.Native.Nat.{◌-◌}
-use borrow.Author.Rules.{rules}
 use Rattle.number.specs.Parts.{at}
 use Rattle.number.proofs.BitLaws.{mask-two}
 use Rattle.stack_audit_laws.specs.Turn.{literal_at}

@@ -1,7 +1,6 @@
 -- `stack_audit_walk::past` meets its contract. Assumes nothing.
 use native.Mathlib.Nat.{add-zero}
 use borrow.Author.Tests.{le-leb, lt-leb}
-use borrow.Author.Rules.{rules}
 use Rattle.stack_audit_laws.specs.Turn.{past}
 use Rattle.stack_audit_walk.proofs.past.Goals as goal
 

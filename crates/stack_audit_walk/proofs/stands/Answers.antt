@@ -1,7 +1,6 @@
 -- `stack_audit_walk::stands` meets its contract. Assumes nothing.
 use native.Mathlib.Omega.{arith}
 use borrow.Author.Tests.{eq-eqb, ne_eqb}
-use borrow.Author.Rules.{rules}
 use Rattle.number.proofs.BitLaws.{pack-or}
 use Rattle.stack_layout.specs.Code.{primary_of}
 use Rattle.stack_audit_laws.specs.Turn.{stands}

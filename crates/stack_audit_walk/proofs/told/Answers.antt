@@ -1,6 +1,5 @@
 -- `stack_audit_walk::told` meets its contract. Assumes nothing.
 use borrow.Author.Tests.{le-leb, lt-leb}
-use borrow.Author.Rules.{rules}
 use Rattle.stack_layout.specs.Code.{short_code, length_from, short_length}
 use Rattle.stack_audit_laws.specs.Turn.{told}
 use Rattle.stack_audit_walk.proofs.told.Goals as goal

@@ -1,12 +1,8 @@
 -- `stack_audit_zeros::clear_to` meets its contract. Assumes nothing.
-use mathlib.Core.Path.{◌≡◌, refl, sym, ◌∙◌}
+use mathlib.Core.Path.{◌≡◌}
 use Prim.Native.Nat.{◌-◌, ◌≤◌}
-use native.Mathlib.Omega.{arith}
 use lib.ListN.{length}
-use borrow.Author.Rules.{rules}
-use Rattle.number.proofs.TestLaws.{and-true}
 use Rattle.stack_audit_laws.specs.Runs.{clear_to}
-use Rattle.stack_audit_laws.proofs.ClearLaws.{clear-far, clear_next, clear-found, clear-end}
 use Rattle.stack_audit_zeros.proofs.clear_to.Given as goal
 
 abbrev pub invariant-loop-p : goal.invariant-loop-p

@@ -1,8 +1,5 @@
 -- `stack_mark::mark` meets its contract: a lent part comes back marked. Assumes nothing.
-use mathlib.Core.Path.{ap}
-use Prim.Native.Nat.{ℕ}
-use lib.ListN.{length}
-use borrow.Author.Rules.{rules}
+use Rattle.std.proofs.Common.{ℕ, length, ap}
 use Rattle.number.specs.Parts.{at}
 use Rattle.number.proofs.PartLaws.{part_at}
 use Rattle.stack_layout.specs.Ops.{with_written}
@@ -12,8 +9,8 @@ use Rattle.stack_mark.proofs.mark.Goals as goal
 
 pub returns : goal.returns
 returns c S =
-    let s = c.before.before.before.before.before in
-    let P = s.args.primary.now in
+    let a = c.args in
+    let P = a.primary.now in
     let f : ℕ → ℕ = λ q. with_written (at P q) in
-    rw (over-lent P c.before.before.mark_part.new.part s.args.p.0 s.args.n f _ s.requires c.before.before.mark_part.ensures (λ i h. ap with_written (part_at P s.args.p.0 s.args.n i h)))
-    (mark-range (length P) P S s.args.p.0 s.args.n s.requires)
+    rw (over-lent P c.mark_part.new.part a.p.0 a.n f _ c.requires c.mark_part.ensures (λ i h. ap with_written (part_at P a.p.0 a.n i h)))
+    (mark-range (length P) P S a.p.0 a.n c.requires)

@@ -1,29 +1,25 @@
 -- `stack_mark::mark_all` meets its contract: the bytes passed are marked, the others as they were. Assumes nothing.
-use mathlib.Core.Path.{◌≡◌, refl, sym, ap, ◌∙◌}
-use Prim.Native.Nat.{ℕ, ◌-◌, ◌≤◌, ◌<◌}
-use native.Mathlib.Omega.{arith}
-use lib.ListN.{length, length-set}
-use borrow.Author.Rules.{rules}
-use Rattle.number.specs.Parts.{at, over}
+use Rattle.std.proofs.Common.{◌≡◌, ℕ, length, sym, ap, ◌∙◌, arith}
+use Rattle.number.specs.Parts.{at}
 use Rattle.number.proofs.PartLaws.{over_none}
 use Rattle.stack_layout.specs.Ops.{with_written}
 use Rattle.stack_laws.proofs.FillLaws.{fill_step, fill-read}
 use Rattle.stack_laws.proofs.MarkLaws.{or-written}
 use Rattle.stack_mark.proofs.mark_all.Goals as goal
 
-pub loop-i-init : goal.loop-i-init
-loop-i-init c = (search rules, refl, sym (over_none 0 _ _))
+pub loop-b-init : goal.loop-b-init
+loop-b-init c = sym (over_none 0 _ _)
 
-pub loop-i-preserved : goal.loop-i-preserved
-loop-i-preserved c =
-    let part₀ = c.before.before.before.args.part.now in
-    let l = c.before.before.loop-i in
-    let h : l.i < length part₀ = omega arith in
+pub loop-b-preserved : goal.loop-b-preserved
+loop-b-preserved c =
+    let part₀ = c.args.part.now in
+    let l = c.loop-b in
+    let h = c.loop-b-test.true in
     let f : ℕ → ℕ = λ q. with_written (at part₀ q) in
-    (omega arith, simp length-set l.invariant.1, fill_step part₀ l.part l.i _ f h l.invariant.2 (or-written (at l.part l.i) ∙ ap with_written (fill-read part₀ l.part l.i f h l.invariant.2)))
+    fill_step part₀ l.part l.b-index _ f h l.invariant
+    (or-written (at l.part l.b-index) ∙ ap with_written (fill-read part₀ l.part l.b-index f h l.invariant))
 
 pub returns : goal.returns
 returns c =
-    let l = c.before.loop-i in
-    let e : l.i ≡ length c.before.before.args.part.now = omega arith in
-    rw e at l.invariant.2
+    let e : c.loop-b.b-index ≡ length c.args.part.now = omega arith in
+    rw e at c.loop-b.invariant

@@ -1,33 +1,24 @@
 -- `stack_marked::all_marked` meets its contract: what was seen so far is 1 exactly if the bytes passed are marked. Assumes nothing.
-use mathlib.Core.Path.{◌≡◌, refl, sym, ◌∙◌}
-use mathlib.Core.List.{[]}
-use Prim.Native.Nat.{◌+◌, ◌-◌, ◌≤◌, ◌<◌}
-use native.Mathlib.Omega.{arith}
-use native.Mathlib.Nat.{zero-add}
-use lib.Dec.{eqb}
-use lib.ListN.{length}
-use borrow.Author.Rules.{rules}
+use Rattle.std.proofs.Common.{◌≡◌, ◌+◌, [], length, refl, sym, ◌∙◌, arith, zero-add}
 use Rattle.number.specs.Parts.{at}
 use Rattle.plain.specs.Ops.{range_marked}
-use Rattle.stack_layout.specs.Ops.{stack_ops}
 use Rattle.stack_laws.proofs.MarkLaws.{seen_more, marked_more}
 use Rattle.stack_marked.proofs.all_marked.Goals as goal
 
-pub loop-k-init : goal.loop-k-init
+pub loop-b-init : goal.loop-b-init
 unfolding range_marked
-loop-k-init c = (search rules, omega arith, refl)
+loop-b-init c = record { bit = omega arith; ones = refl }
 
-pub loop-k-preserved : goal.loop-k-preserved
-loop-k-preserved c =
+pub loop-b-preserved : goal.loop-b-preserved
+loop-b-preserved c =
     let part = c.args.part.now in
-    let l = c.loop-k in
-    let s = seen_more l.seen (at part l.k) l.invariant.1 in
-    let z : 0 + l.k ≡ l.k = zero-add l.k in
-    let m = rw z at (marked_more (length part) part [] 0 l.k) in
-    (omega arith, s.1, s.0 ∙ rw l.invariant.2 (sym m))
+    let l = c.loop-b in
+    let s = seen_more l.seen (at part l.b-index) l.invariant.bit in
+    let z : 0 + l.b-index ≡ l.b-index = zero-add l.b-index in
+    let m = rw z at (marked_more (length part) part [] 0 l.b-index) in
+    record { bit = s.1; ones = s.0 ∙ rw l.invariant.ones (sym m) }
 
 pub returns : goal.returns
 returns c =
-    let l = c.loop-k in
-    let e : l.k ≡ length c.args.part.now = omega arith in
-    l.invariant.2 ∙ rw e
+    let e : c.loop-b.b-index ≡ length c.args.part.now = omega arith in
+    c.loop-b.invariant.ones ∙ rw e

@@ -4,7 +4,6 @@ use mathlib.Core.List.{[]}
 use Prim.Native.Nat.{◌+◌, ◌-◌}
 use native.Mathlib.Nat.{zero-add}
 use lib.ListN.{length, take, drop}
-use borrow.Author.Rules.{rules}
 use Rattle.number.proofs.PartLaws.{part_length, part_at}
 use Rattle.stack_laws.proofs.MarkLaws.{marked-same}
 use Rattle.stack_marked.proofs.marked.Goals as goal

@@ -1,5 +1,5 @@
 -- `stack_piece::fit` meets its contract. Assumes nothing.
-use Rattle.std.proofs.Common.{◌+◌, arith, rules, le-ltb, lt-ltb}
+use Rattle.std.proofs.Common.{◌+◌, arith, le-ltb, lt-ltb}
 use Rattle.stack_layout.specs.Reading.{fitted}
 use Rattle.stack_piece.proofs.fit.Goals as goal
 

@@ -1,5 +1,4 @@
 -- `stack_place::erase` meets its contract. Assumes nothing.
-use borrow.Author.Rules.{rules}
 use Rattle.stack_layout.specs.Ops.{stack_erase}
 use Rattle.stack_place.proofs.erase.Goals as goal
 

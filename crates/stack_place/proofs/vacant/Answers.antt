@@ -4,7 +4,6 @@ use mathlib.Core.List.{List}
 use Prim.Native.Nat.{ℕ}
 use lib.Bits.{bit_or}
 use lib.Dec.{eqb}
-use borrow.Author.Rules.{rules}
 use Rattle.number.specs.Little.{word}
 use Rattle.number.specs.Parts.{at}
 use Rattle.number.proofs.BitLaws.{or-none}
@@ -17,18 +16,12 @@ both : (P S : List ℕ) (q n w x y : ℕ) → n ≡ w → x ≡ word (at P) q w 
 unfolding stack_vacant
 both P S q n w x y e f g = rw (e, f, g) (or-none (word (at P) q w) (word (at S) q w) ∙ rw (zero_word (at P) q w, zero_word (at S) q w))
 
-pub returns-then-n-eq4 : goal.returns-then-n-eq4
-returns-then-n-eq4 c =
-    let i = c.before.before in
-    let a = i.before.before.before.args in
-    both a.primary.now a.secondary.now a.base.0 a.len 4 _ _ i.if-n-eq4.true c.before.number_at.ensures c.number_at-then-n-eq4.ensures
+pub returns-in-4 : goal.returns-in-4
+returns-in-4 c = both c.args.primary.now c.args.secondary.now c.args.base.0 c.args.len 4 _ _ c.in-4.is c.number_at.ensures c.number_at-in-4.ensures
 
-pub returns-then-n-eq8 : goal.returns-then-n-eq8
-returns-then-n-eq8 c =
-    let i = c.before.before in
-    let a = i.before.before.before.before.args in
-    both a.primary.now a.secondary.now a.base.0 a.len 8 _ _ i.if-n-eq8.true c.before.eight_at.ensures c.eight_at-then-n-eq8.ensures
+pub returns-in-8 : goal.returns-in-8
+returns-in-8 c = both c.args.primary.now c.args.secondary.now c.args.base.0 c.args.len 8 _ _ c.in-8.is c.eight_at.ensures c.eight_at-in-8.ensures
 
-pub returns : goal.returns
+pub returns-in_default : goal.returns-in_default
 unfolding stack_vacant
-returns c = rw (c.before.zero_at.ensures, c.zero_at-2.ensures)
+returns-in_default c = rw (c.zero_at.ensures, c.zero_at-in_default.ensures)

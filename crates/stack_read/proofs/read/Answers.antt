@@ -1,5 +1,5 @@
 -- `stack_read::read` meets its contract: the code by shift, the two low bits by mask. Assumes nothing.
-use Rattle.std.proofs.Common.{◌≡◌, ◌%◌, arith, rules}
+use Rattle.std.proofs.Common.{◌≡◌, ◌%◌, arith}
 use lib.Bits.{and_mask}
 use Rattle.number.specs.Parts.{at}
 use Rattle.stack_layout.specs.Reading.{stack_reading, code_reading}

@@ -1,5 +1,5 @@
 -- `stack_read::told` meets its contract. Assumes nothing.
-use Rattle.std.proofs.Common.{◌≡◌, ℕ, ◌+◌, ◌-◌, ◌<◌, ◌≤◌, length, sym, ◌∙◌, arith, rules}
+use Rattle.std.proofs.Common.{◌≡◌, ◌+◌, ◌-◌, ◌<◌, ◌≤◌, length, sym, ◌∙◌, arith}
 use Rattle.number.specs.Parts.{at}
 use Rattle.stack_layout.specs.Code.{short_length}
 use Rattle.stack_laws.proofs.ReadLaws.{no_length, code-none, code-table, code-short, code-long, code-above}
@@ -58,5 +58,5 @@ returns-then-code-gt62 c m f =
 
 pub returns : goal.returns
 returns c m f =
-    let j : c.wide.result - 48 ≡ c.args.code - 48 = rw c.wide.ensures.0 in
+    let j : c.from.result - 48 ≡ c.args.code - 48 = rw c.from.ensures in
     c.told_long.ensures m ∙ rw j (sym (code-long _ (at c.args.secondary.now) c.args.p.0 c.args.code m (omega arith) (omega arith)))

@@ -1,5 +1,5 @@
 -- `stack_read::told_long` meets its contract. Assumes nothing.
-use Rattle.std.proofs.Common.{◌≡◌, ℕ, ◌+◌, cond, length, sym, ◌∙◌, arith, rules}
+use Rattle.std.proofs.Common.{◌≡◌, ℕ, ◌+◌, cond, length, sym, ◌∙◌, arith}
 use Rattle.number.specs.Parts.{at}
 use Rattle.plain.specs.Reading.{damaged}
 use Rattle.stack_layout.specs.Reading.{bad_piece, fitted, long_reading}

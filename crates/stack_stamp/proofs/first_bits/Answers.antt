@@ -1,6 +1,5 @@
 -- `stack_stamp::first_bits` meets its contract: one arm for each beginning. Assumes nothing.
 use native.Mathlib.Omega.{arith}
-use borrow.Author.Rules.{rules}
 use Rattle.stack_layout.specs.Code.{low_bits}
 use Rattle.stack_stamp.proofs.first_bits.Goals as goal
 

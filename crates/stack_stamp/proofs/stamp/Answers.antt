@@ -1,6 +1,5 @@
 -- `stack_stamp::stamp` meets its contract: what is written to each shadow is what a block makes of it as it begins. Assumes nothing.
 use native.Mathlib.Omega.{arith}
-use borrow.Author.Rules.{rules}
 use Rattle.stack_laws.proofs.StampLaws.{vacant-secondary, stamped}
 use Rattle.stack_stamp.proofs.stamp.Goals as goal
 

@@ -1,7 +1,6 @@
 -- `stack_table::codes_below` meets its contract. Assumes nothing.
 use mathlib.Core.Path.{refl}
 use native.Mathlib.Omega.{arith}
-use borrow.Author.Rules.{rules}
 use Rattle.stack_laws.proofs.CodeLaws.{short-small}
 use Rattle.stack_table.proofs.codes_below.Goals as goal
 

@@ -1,7 +1,6 @@
 -- `stack_table::short_offset` meets its contract: the offsets are computed from the rule. Assumes nothing.
 use mathlib.Core.Path.{refl}
 use lib.Count.{count_leading_zeros}
-use borrow.Author.Rules.{rules}
 use Rattle.number.specs.Parts.{tab}
 use Rattle.stack_layout.specs.Code.{short_code, length_from, short_length, short_offset}
 use Rattle.stack_laws.proofs.TableLaws.{first-bits}

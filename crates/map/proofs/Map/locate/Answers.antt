@@ -1,5 +1,5 @@
 -- `map::Map::locate` meets its contract. Assumes nothing.
-use Rattle.std.proofs.Common.{◌≡◌, false, arith, rules}
+use Rattle.std.proofs.Common.{◌≡◌, false, arith}
 use Rattle.map.specs.Map.{within, area_of}
 use Rattle.map.proofs.MapLaws.{above_within, above-outside}
 use Rattle.map.proofs.Map.locate.Goals as goal

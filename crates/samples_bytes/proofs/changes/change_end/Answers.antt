@@ -1,10 +1,7 @@
 -- `samples_bytes::changes::change_end` meets its contract. Assumes nothing.
-use mathlib.Core.Path.{◌≡◌, sym, ◌∙◌}
-use mathlib.Core.Logic.{⊎_elim, inl, inr}
-use Prim.Native.Nat.{◌-◌}
-use lib.ListN.{length}
-use Rattle.samples_bytes.specs.Changes.{change_end}
-use Rattle.samples_bytes.proofs.ChangeLaws.{end_from, end-first, end-last, end-next}
+use mathlib.Core.Path.{sym, ◌∙◌}
+use mathlib.Core.Logic.{inl, inr}
+use Rattle.samples_bytes.proofs.ChangeLaws.{end-first, end-last, end-next}
 use borrow.Author.Rules.{rules}
 use Rattle.samples_bytes.proofs.changes.change_end.Goals as goal
 use Rattle.samples_bytes.proofs.changes.change_end.Goals.{then-old-i, else-old-i}

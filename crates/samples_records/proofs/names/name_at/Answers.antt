@@ -1,6 +1,5 @@
 -- `samples_records::names::name_at` meets its contract. Assumes nothing.
 use Rattle.samples_records.proofs.NameLaws.{called}
-use borrow.Author.Rules.{rules}
 use Rattle.samples_records.proofs.names.name_at.Goals as goal
 
 pub returns : goal.returns

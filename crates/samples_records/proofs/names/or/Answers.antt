@@ -1,16 +1,13 @@
 -- `samples_records::names::or` meets its contract. Assumes nothing.
 use mathlib.Core.Path.{sym, ◌∙◌}
 use Rattle.samples_records.proofs.NameLaws.{or-found, or-other, or-here}
-use borrow.Author.Rules.{rules}
 use Rattle.samples_records.proofs.names.or.Goals as goal
 
-pub returns-then-found-gt0 : goal.returns-then-found-gt0
-returns-then-found-gt0 c = sym (or-found _ _ _ c.if-found-gt0.true)
+pub returns-then-is_some : goal.returns-then-is_some
+returns-then-is_some c = or-found _ _ _ _ c.if-is_some.ensures
 
-pub returns-then-end-found : goal.returns-then-end-found
-returns-then-end-found c =
-    sym (or-other _ _ _ c.if-found-gt0.false (sym c.after_name-end.ensures ∙ c.if-end-found.true))
+pub returns-in_err-end : goal.returns-in_err-end
+returns-in_err-end c = c.from_residual.ensures ∙ or-other _ _ _ _ c.if-is_some.ensures (sym c.after_name.ensures ∙ c.in_err-end.was)
 
 pub returns : goal.returns
-returns c =
-    sym (or-here _ _ _ c.if-found-gt0.false _ c.after_name-end.ensures c.if-end-found.false)
+returns c = or-here _ _ _ _ c.if-is_some.ensures _ (sym c.after_name.ensures ∙ c.in_ok-end.was)

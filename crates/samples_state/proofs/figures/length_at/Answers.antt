@@ -1,22 +1,25 @@
 -- `samples_state::figures::length_at` meets its contract. Assumes nothing.
 use mathlib.Core.Path.{sym, ◌∙◌}
 use Rattle.samples_state.proofs.FigureLaws.{length-other, length_none, length-large, length-is}
-use borrow.Author.Rules.{rules}
 use Rattle.samples_state.proofs.figures.length_at.Goals as goal
 
-pub returns-then-start-at : goal.returns-then-start-at
-returns-then-start-at c = (length-other _ _ _ _ _ c.after_word-start.ensures c.if-start-at.true, c.requires)
+pub returns-in_err-start : goal.returns-in_err-start
+returns-in_err-start c =
+    rw c.from_residual.ensures (length-other _ _ _ (sym c.after_word.ensures ∙ c.in_err-start.was), tt)
 
-pub returns-in_default : goal.returns-in_default
-returns-in_default c =
-    (length_none _ _ _ _ _ c.after_word-start.ensures c.if-start-at.false (sym c.number_at.ensures ∙ c.in_default.is), c.requires)
+pub returns-in_err-length : goal.returns-in_err-length
+returns-in_err-length c =
+    let s = sym c.after_word.ensures ∙ c.in_ok-start.was in
+    rw c.from_residual-in_err-length.ensures (length_none _ _ _ _ s (sym c.number_at.ensures ∙ c.in_err-length.was), tt)
 
-pub returns-then-v-gt136 : goal.returns-then-v-gt136
-returns-then-v-gt136 c =
-    let n = sym c.number_at.ensures ∙ c.in-Is.is in
-    (length-large _ _ _ _ _ c.after_word-start.ensures c.if-start-at.false _ _ n c.if-v-gt136.true, c.requires)
+pub returns-then-length-gt136 : goal.returns-then-length-gt136
+returns-then-length-gt136 c =
+    let s = sym c.after_word.ensures ∙ c.in_ok-start.was in
+    let n = sym c.number_at.ensures ∙ c.in_ok-length.was in
+    (length-large _ _ _ _ s _ n c.if-length-gt136.true, tt)
 
 pub returns : goal.returns
 returns c =
-    let n = sym c.number_at.ensures ∙ c.in-Is.is in
-    (length-is _ _ _ _ _ c.after_word-start.ensures c.if-start-at.false _ _ n c.if-v-gt136.false, c.if-v-gt136.false)
+    let s = sym c.after_word.ensures ∙ c.in_ok-start.was in
+    let n = sym c.number_at.ensures ∙ c.in_ok-length.was in
+    (length-is _ _ _ _ s _ n c.if-length-gt136.false, c.if-length-gt136.false)

@@ -1,9 +1,0 @@
--- The test is the definition's own, at each form's segment. Assumes nothing.
-use Rattle.std.proofs.Common.{rules}
-use Rattle.map.proofs.Form.whole.Goals as goal
-
-pub returns-in-Player : goal.returns-in-Player
-returns-in-Player c = rw c.in-Player.is
-
-pub returns-in-Desk : goal.returns-in-Desk
-returns-in-Desk c = rw c.in-Desk.is
