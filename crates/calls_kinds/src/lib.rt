@@ -3,6 +3,7 @@
 
 ghost use Rattle.std.specs.Prelude.{◌≡◌};
 ghost use Rattle.monitor_base.specs.Answers.{call_of, query_of, update_of};
+ghost use Rattle.calls_format.specs.Decoded as kinds;
 ghost use Rattle.calls_format.specs.Decoded.{requested, begin_kind, call_kind, kind_of, length_of};
 ghost use Rattle.calls_kinds.specs.Kind.{number_of, Decodes};
 
@@ -71,6 +72,13 @@ impl Kind {
             Kind::Audit => 4,
         }
     }
+}
+
+// Whether the calls of a kind write; no call has a number that is no kind's.
+pub fn writes(kind: u32) -> bool
+    ensures { result ≡ kinds.writes kind }
+{
+    (kind == 2) | (kind == 3) | (kind == 4) | (kind == 10) | (kind == 14) | (kind == 16)
 }
 
 fn query_kind(query: Query) -> u32

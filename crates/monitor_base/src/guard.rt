@@ -29,8 +29,8 @@ pub fn checked(
     if fit { Ok(()) } else { Err(Refusal::BadLength) }
 }
 
-// A number alone: all fields are zero.
-fn alone(number: u32) -> Answer
+// A number alone, whatever it is: all fields are zero.
+pub fn alone(number: u32) -> Answer
     ensures { answer_of result ≡ plain.refusal number }
 {
     Answer {
