@@ -74,7 +74,7 @@ impl Kind {
     }
 }
 
-// Whether the calls of a kind write; no call has a number that is no kind's.
+// Whether the calls of a kind write.
 pub fn writes(kind: u32) -> bool
     ensures { result ≡ kinds.writes kind }
 {

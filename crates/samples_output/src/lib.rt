@@ -21,6 +21,15 @@ pub fn malformed(output: Stdout) {
     write(output, b" => ?");
 }
 
+// Each number after a space, a write for each piece: where one fails, those after it are still tried.
+fn write_fields(output: Stdout, fields: &[u32]) {
+    write(output, b" =>");
+    for v in fields {
+        write(output, b" ");
+        write_number(output, u64::from(*v));
+    }
+}
+
 // The number, then as many fields as calls of this kind have, on a refusal too.
 pub fn write_answer(output: Stdout, kind: u32, r: Answer) {
     let Answer {
@@ -30,25 +39,17 @@ pub fn write_answer(output: Stdout, kind: u32, r: Answer) {
         third,
         fourth,
     } = r;
-    let told = match kind {
-        6 | 7 | 13 | 15 => print!(output; " => {number} {first}"),
-        8 => print!(output; " => {number} {first} {second}"),
-        5 | 9 => print!(output; " => {number} {first} {second} {third} {fourth}"),
-        _ => print!(output; " => {number}"),
-    };
-    told.is_ok();
+    match kind {
+        6 | 7 | 13 | 15 => write_fields(output, &[number, first]),
+        8 => write_fields(output, &[number, first, second]),
+        5 | 9 => write_fields(output, &[number, first, second, third, fourth]),
+        _ => write_fields(output, &[number]),
+    }
 }
 
 // The same for place, which has no kind.
 pub fn write_room(output: Stdout, r: Answer) {
-    let Answer {
-        number,
-        first,
-        second,
-        third,
-        ..
-    } = r;
-    print!(output; " => {number} {first} {second} {third}").is_ok();
+    write_fields(output, &[r.number, r.first, r.second, r.third]);
 }
 
 // The bytes as numbers, with commas between.
@@ -80,7 +81,8 @@ pub fn change(output: Stdout, name: &[u8], old: &[u8], new: &[u8], told: bool) -
     };
     begin_changes(output, told);
     write(output, name);
-    print!(output; "{start}=").is_ok();
+    write_number(output, start as u64);
+    write(output, b"=");
     write_bytes(output, &new[start..end]);
     true
 }
@@ -89,7 +91,8 @@ pub fn change(output: Stdout, name: &[u8], old: &[u8], new: &[u8], told: bool) -
 pub fn counter_change(output: Stdout, old: u64, new: u64, told: bool) {
     if old != new {
         begin_changes(output, told);
-        print!(output; " counter={new}").is_ok();
+        write(output, b" counter=");
+        write_number(output, new);
     }
 }
 
